@@ -1,7 +1,9 @@
 """What the scripts of this folder need. Where something isn't there, a script ends and says what is missing."""
 
 import shutil
+import subprocess
 import sys
+import time
 from pathlib import Path
 
 ROOT = Path(__file__).resolve().parent.parent
@@ -30,3 +32,16 @@ def tools(*names):
     missing = [name for name in names if not shutil.which(name)]
     if missing:
         sys.exit(f"not on the path: {', '.join(missing)}")
+
+
+def serve(upd, file, address, log):
+    """`upd serve` for a million connections, with a file as its standard error: its process and its port, once it listens."""
+    with log.open("wb") as output:
+        process = subprocess.Popen([upd, "serve", file, address, "1000000"], stderr=output)
+    while not log.read_bytes().endswith(b"\n") and process.poll() is None:
+        time.sleep(0.01)
+    line = log.read_text()
+    if not line.startswith("upd: listening on "):
+        process.kill()
+        sys.exit(f"upd serve says, in place of where it listens: {line!r}")
+    return process, int(line.splitlines()[0].rsplit(":", 1)[1])

@@ -4,9 +4,10 @@
     python3 bench/sessions.py [--executable FILE] [--write] DOCUMENT..
 
 A session is a fenced block whose first line begins with `$ `. A command goes to the end of its here-document, if it has one. What follows, up to the next
-command, is what it writes to both streams. Several blanks count as one, and so does ` .. `, which replaces blanks. All sessions of a document are one shell in
-a new folder, with the executable (crates/upd/out/upd where none is named) on the path as `upd`, and the scripts of examples/. --write replaces the answers
-in the document by those that were given; read them before you keep them. The exit status is 1 where an answer differs, or a document has no session.
+command, is what it writes to both streams. Several blanks count as one, those at the end of a line as none, and ` .. ` replaces blanks. All sessions of a
+document are one shell in a new folder, with the executable (crates/upd/out/upd where none is named) on the path as `upd`, and the scripts of examples/.
+--write replaces the answers in the document by those that were given; read them before you keep them. The exit status is 1 where an answer differs, or a
+document has no session.
 """
 
 import argparse
@@ -57,14 +58,14 @@ def answers(typed, folder, executables):
     script = "".join(f"{command}\nsleep 0.2\nprintf '\\n%s\\n' '{MARK}'\n" for command in typed)
     path = f"{executables}:{os.environ['PATH']}"
     shell = subprocess.run(["bash", "-c", script], cwd=folder, env=dict(os.environ, PATH=path), stdin=subprocess.DEVNULL,
-                           stdout=subprocess.PIPE, stderr=subprocess.STDOUT, timeout=120)
+                           stdout=subprocess.PIPE, stderr=subprocess.STDOUT, timeout=600)
     parts = shell.stdout.decode().split(f"\n{MARK}\n")
     return [part.rstrip("\n").split("\n") if part.strip("\n") else [] for part in parts[:-1]]
 
 
 def plain(line):
-    """A line with its blanks as one."""
-    return re.sub(r" +(\.\. +)?", " ", line.replace("\r", ""))
+    """A line with its blanks as one, and none at its end."""
+    return re.sub(r" +(\.\. +)?", " ", line.replace("\r", "")).rstrip(" ")
 
 
 def shortened(line):

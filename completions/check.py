@@ -4,8 +4,9 @@
     python3 completions/check.py [--executable FILE]
 
 Each of them has the commands of `upd --help`, and no others. `upd help` writes what `--help` writes. The man page has each command's words as its
-`--help` has them, and the faults that `upd explain` explains, in order of number. groff, which is required, formats it without a warning. bash, and fish where it is installed, are asked
-what they complete. The default executable is crates/upd/out/upd. The exit status is 1 where something differs.
+`--help` has them, and the faults that `upd explain` explains, in order of number. It has the words of each installed script as its usage has them. groff,
+which is required, formats it without a warning. bash, and fish where it is installed, are asked what they complete. The default executable is
+crates/upd/out/upd. The exit status is 1 where something differs.
 """
 
 import argparse
@@ -25,18 +26,28 @@ def said(*words):
 
 MODES = ["full", "normal", "quick"]
 
+# The scripts that are installed, and the places of their words.
+SCRIPTS = {"upd-bring": "bring.sh", "upd-tree": "tree.sh", "upd-edit": "edit.sh"}
+WORDS = {"upd-bring library.db ": [], "upd-bring --skip --list ": ["library.db"], "upd-tree library.db ": [], "upd-edit library.db LYON ": [],
+         "upd-edit --mode ": MODES, "upd-edit --mode quick ": ["library.db"], "upd-edit --set ": []}
+
 # Asks bash for the completions of the words after its script, the last of which is being typed.
-BASH = 'source "$0"; COMP_WORDS=("$@"); COMP_CWORD=$(($# - 1)); _upd; printf "%s\\n" "${COMPREPLY[@]}"'
+BASH = 'source "$0"; COMP_WORDS=("$@"); COMP_CWORD=$(($# - 1)); %s; printf "%%s\\n" "${COMPREPLY[@]}"'
+
+
+def usage(script):
+    """The words of a script, as its usage has them."""
+    return re.search(r'say "usage: \S+ ([^<";]+?) ?[<";]', (ROOT / "examples" / SCRIPTS[script]).read_text())[1]
 
 
 def completed(folder, shell, line):
-    """The completions of a line in a folder, by name, without options."""
+    """The completions of a line in a folder, by name, with options only where one is typed."""
     if shell == "bash":
-        words = ["bash", "--norc", "-c", BASH, ROOT / "completions/upd.bash", *line.split(" ")]
+        words = ["bash", "--norc", "-c", BASH % ("_upd_script" if line.startswith("upd-") else "_upd"), ROOT / "completions/upd.bash", *line.split(" ")]
     else:
         words = ["fish", "--no-config", "-c", f"source {ROOT}/completions/upd.fish; complete -C'{line}'"]
     lines = subprocess.run(words, cwd=folder, capture_output=True, check=True, text=True).stdout.splitlines()
-    return sorted(name for name in (line.split("\t")[0] for line in lines) if name and not name.startswith("-"))
+    return sorted(name for name in (found.split("\t")[0] for found in lines) if name and (line.endswith(" -") or not name.startswith("-")))
 
 
 def asked(shell, commands):
@@ -45,6 +56,8 @@ def asked(shell, commands):
               "upd try library.db ": MODES,
               "upd run library.db LYON ": [], "upd explain Set": ["Settled"], "upd help ": sorted(commands)}
     wanted |= {f"upd {command} ": ["library.db"] for command in commands if command not in ("trial", "explain", "help")}
+    wanted |= {f"{script} ": ["library.db"] for script in SCRIPTS} | WORDS
+    wanted |= {f"{script} -": sorted(re.findall(r"\[(--\w+)", usage(script))) for script in SCRIPTS}
     with tempfile.TemporaryDirectory() as folder:
         (Path(folder) / "library.db").touch()
         found = {line: completed(folder, shell, line) for line in wanted}
@@ -94,6 +107,11 @@ def main():
         operands = " ".join(re.findall(r"<([A-Z]+)>", re.search(r"Usage: \S+ .*", said(upd, command, "--help"))[0]))
         if synopsis.get(command) != operands:
             wrong.append(f"man/upd.1, {command}: {synopsis.get(command)}, and not {operands}")
+    written = {name.replace("\\-", "-"): re.sub(r"\\(f[RBI]|)", "", words).replace('"', "").strip()
+               for name, words in re.findall(r"^\.BR (upd\\-[a-z]+) (.*)$", page, re.M)}
+    for script in SCRIPTS:
+        if written.get(script) != usage(script):
+            wrong.append(f"man/upd.1, {script}: {written.get(script)}, and not {usage(script)}")
     faults = explained(upd)
     listed = [f"{name} ({number})" for name, number in re.findall(r'"(\w+)" " \((\d+)\)', page)]
     if listed != faults:

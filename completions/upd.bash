@@ -1,4 +1,4 @@
-# bash completion of upd
+# bash completion of upd, and of its scripts upd-bring, upd-tree and upd-edit
 _upd() {
     local word=${COMP_WORDS[COMP_CWORD]} command=${COMP_WORDS[1]} words=
     local commands="trial init run settle spool serve compile list history blame show idents yanks page text correct try source runs sites backup examine migrate explain help"
@@ -13,3 +13,22 @@ _upd() {
     mapfile -t COMPREPLY < <(compgen -W "$words" -- "$word")
 }
 complete -F _upd upd
+
+_upd_script() {
+    local word=${COMP_WORDS[COMP_CWORD]} options="" place=1 at
+    case ${COMP_WORDS[0]##*/} in
+        upd-bring) options="--c --skip --list" ;;
+        upd-edit) options="--mode --set" ;;
+    esac
+    for ((at = 1; at < COMP_CWORD; at++)); do
+        case ${COMP_WORDS[at]} in --list | --mode | --set) ((at++)) ;; -*) ;; *) ((place++)) ;; esac
+    done
+    COMPREPLY=()
+    case ${COMP_WORDS[COMP_CWORD - 1]},$word,$place in
+        --mode,*) mapfile -t COMPREPLY < <(compgen -W "full quick normal" -- "$word") ;;
+        --set,*) ;;
+        --list,* | *,[!-]*,1 | *,,1) compopt -o filenames 2> /dev/null; mapfile -t COMPREPLY < <(compgen -f -- "$word") ;;
+        *,-*,1) mapfile -t COMPREPLY < <(compgen -W "$options" -- "$word") ;;
+    esac
+}
+complete -F _upd_script upd-bring upd-tree upd-edit

@@ -1,4 +1,4 @@
-# fish completion of upd, to be installed as /etc/fish/completions/upd.fish
+# fish completion of upd and of its scripts, to be installed as /etc/fish/completions/upd.fish, with links for the scripts
 set -l commands trial init run settle spool serve compile list history blame show idents yanks page text correct try source runs sites backup examine migrate explain help
 complete -c upd -f
 complete -c upd -n "not __fish_seen_subcommand_from $commands" -a trial -d 'apply a run to an empty library'
@@ -35,3 +35,27 @@ complete -c upd -n "__fish_seen_subcommand_from help; and test $words -eq 2" -a 
 complete -c upd -n "__fish_seen_subcommand_from init run settle spool serve compile list history blame show idents yanks page text correct try source runs sites backup examine migrate; and test $words -eq 2" -F
 complete -c upd -s h -l help -d 'show the words of a command'
 complete -c upd -s V -l version -d 'show the version'
+
+function __upd_place -d 'The place of the operand of a script that is typed'
+    set -l place 1
+    set -l value 0
+    for word in (commandline -opc)[2..-1]
+        if test $value -eq 1
+            set value 0
+        else if contains -- $word --list --mode --set
+            set value 1
+        else if not string match -q -- '-*' $word
+            set place (math $place + 1)
+        end
+    end
+    echo $place
+end
+for script in upd-bring upd-tree upd-edit
+    complete -c $script -f
+    complete -c $script -n 'test (__upd_place) -eq 1' -F
+end
+complete -c upd-bring -l c -d 'make files of C fit'
+complete -c upd-bring -l skip -d 'leave out files that do not fit'
+complete -c upd-bring -l list -r -F -d 'write what was changed'
+complete -c upd-edit -l mode -x -a 'full quick normal' -d 'the mode of the run'
+complete -c upd-edit -l set -x -d 'the name of the set'

@@ -36,11 +36,11 @@ set -u
 export LC_ALL=C
 
 say() {
-    printf 'bring.sh: %s\n' "$*" >&2
+    printf '%s: %s\n' "${0##*/}" "$*" >&2
 }
 
 usage() {
-    say "usage: bring.sh [--c] [--skip] [--list LIST] FILE SITE NUMBER < names-of-source-files; --c asks for --list"
+    say "usage: ${0##*/} [--c] [--skip] [--list LIST] FILE SITE NUMBER < names-of-source-files; --c asks for --list"
     exit 2
 }
 
@@ -73,6 +73,7 @@ case $3 in
 esac
 library=$1 site=$2 number=$3
 upd=${UPD:-upd} tree=$(dirname -- "$0")/tree.sh files=0 unfit=0
+[ -r "$tree" ] || tree=${tree%/*}/upd-tree # as it is installed
 [ -r "$tree" ] || {
     say "$tree is not there"
     exit 3
@@ -221,7 +222,7 @@ add_file() {
     cat "$work/notes" >>"$work/list" || exit 3
     runs="run $first"
     if [ $((number - first)) -gt 1 ]; then runs="runs $first to $((number - 1))"; fi
-    printf 'bring.sh: %s is the deck %s, %s\n' "$1" "$2" "$runs" >>"$work/report"
+    say "$1 is the deck $2, $runs" 2>>"$work/report"
     printf '%s\n%s\n' "$path" "$1" >>"$added"
 }
 

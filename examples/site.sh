@@ -33,11 +33,11 @@ set -u
 export LC_ALL=C # names are in the order of their bytes
 
 say() {
-    printf 'site.sh: %s\n' "$*" >&2
+    printf '%s: %s\n' "${0##*/}" "$*" >&2
 }
 
 usage() {
-    say "usage: site.sh FOLDER SITE FILE-OR-URL; a site is 1 to 8 of A-Z and 0-9"
+    say "usage: ${0##*/} FOLDER SITE FILE-OR-URL; a site is 1 to 8 of A-Z and 0-9"
     exit 2
 }
 
@@ -120,8 +120,8 @@ number_runs() {
 
 # Posts the data to a path of the site, and writes the answer to a file. The status is 000 where there is no whole answer.
 post() {
-    status=$(curl ${CURL_CONFIG:+--config "$CURL_CONFIG"} --silent --max-time 60 --header Expect: --output "$1" \
-        --write-out '%{http_code}' --data-binary "$2" "$desk/sites/$site/$3") || status=000
+    status=$(curl ${CURL_CONFIG:+--config "$CURL_CONFIG"} --silent --max-time 60 --header Expect: --header Content-Type: \
+        --output "$1" --write-out '%{http_code}' --data-binary "$2" "$desk/sites/$site/$3") || status=000
     case $status in
     401) say "the answer is 401: check the password, in the file that CURL_CONFIG names" ;;
     403) say "the answer is 403: check the site $site, the path $desk, and whose password it is" ;;

@@ -33,11 +33,11 @@ set -u
 export LC_ALL=C
 
 say() {
-    printf 'tree.sh: %s\n' "$*" >&2
+    printf '%s: %s\n' "${0##*/}" "$*" >&2
 }
 
 [ $# -eq 2 ] || {
-    say "usage: tree.sh FILE FOLDER < LIST"
+    say "usage: ${0##*/} FILE FOLDER < LIST"
     exit 2
 }
 library=$1 folder=$2 upd=${UPD:-upd} result=0

@@ -1,3 +1,4 @@
+pub mod BindLemmas
 pub mod EditLemmas
 pub mod DirectoryLemmas
 pub mod Filtered

@@ -3,6 +3,8 @@ pub mod Yanks
 pub mod Marks
 pub mod Purges
 pub mod Compile
+pub mod Directives
+pub mod LineEdits
 pub mod Step
 pub mod Numbers
 pub mod Applying

@@ -36,6 +36,12 @@ pub struct Applied {
 
 /// Applies a run. A refusal has the number of its line; NoMemory is at 0. After either the library is unchanged. The
 /// results are allocated in `alloc`; the library keeps its own allocator.
+///
+/// ```text
+/// *DECK A        after these three lines deck A has the cards A.1 (this line), A.2 and A.3,
+/// ONE            `idents` is the serial of A, and `touched` the three cards
+/// TWO
+/// ```
 pub fn apply(alloc: Global, library: &mut Library, run: &Run) -> Result<Applied, Fault>
     ensures ok { IfOk result (λ a. applied run.now library.old
         ≡ Ok (record { library = library.new; idents = a.idents.items; compile = a.compile.items })) }
@@ -92,6 +98,10 @@ fn outcome(
 
 /// Purges the ident with a serial and all younger ones. It does not allocate. A serial that no ident has changes
 /// nothing.
+///
+/// ```text
+/// UNITS 1, ORBIT 2, P1 3, P2 4    purge_back(library, 3) purges P1 and P2
+/// ```
 pub fn purge_back(library: &mut Library, age: Serial)
     ensures { library.new ≡ purged_back age library.old }
 {

@@ -4,7 +4,8 @@ ghost use Rattle.std.specs.List.{filter};
 ghost use Rattle.upd_core.specs.Library.{is_deck_kind};
 ghost use Rattle.upd_text.specs.Outcome.{Does, Gives};
 ghost use Rattle.upd_deck.specs.Items.{PurDeck, Purge, PurgeFrom, SelPurge};
-ghost use Rattle.upd_apply.specs.Step.{ended, line_done, purged_in_all};
+ghost use Rattle.upd_apply.specs.LineEdits.{ended, purged_in_all};
+ghost use Rattle.upd_apply.specs.Step.{carried_out, judged};
 ghost use Rattle.upd_apply.specs.Names.{is_in};
 ghost use Rattle.upd_apply.specs.Purges.{decks_purged, idents_purged, pair_ages, pairs_purged};
 
@@ -37,7 +38,7 @@ impl Model for AgePair {
 impl State {
     /// `*PURGE` of names and ranges.
     pub(crate) fn purge_idents(&mut self, ranges: &[NameRange]) -> Result<(), FaultKind>
-        ensures { Does result self.new (line_done (Purge ranges.now) [] self.old) }
+        ensures { Does result self.new (carried_out (judged (Purge ranges.now) [] self.old) self.old) }
     {
         let ages = idents_purged(&self.library, ranges)?;
         self.library.purge(&ages)?;
@@ -48,8 +49,8 @@ impl State {
     /// `*PURGE` of an ident and all younger ones.
     pub(crate) fn purge_from(&mut self, name: &Name) -> Result<(), FaultKind>
         ensures { MatchResult result
-            (λ _. line_done (PurgeFrom name.now) [] self.old ≡ Ok self.new)
-            (λ e. line_done (PurgeFrom name.now) [] self.old ≡ Err e) }
+            (λ _. carried_out (judged (PurgeFrom name.now) [] self.old) self.old ≡ Ok self.new)
+            (λ e. carried_out (judged (PurgeFrom name.now) [] self.old) self.old ≡ Err e) }
     {
         let age = known_ident(&self.library, name)?;
         self.library.purge_from(age);
@@ -59,7 +60,7 @@ impl State {
 
     /// `*SELPURGE`: idents, each in one deck.
     pub(crate) fn purge_pairs(&mut self, pairs: &[IdentIn]) -> Result<(), FaultKind>
-        ensures { Does result self.new (line_done (SelPurge pairs.now) [] self.old) }
+        ensures { Does result self.new (carried_out (judged (SelPurge pairs.now) [] self.old) self.old) }
     {
         let ages = pairs_purged(&self.library, pairs)?;
         purge_in_all(&mut self.library, &ages);
@@ -69,7 +70,7 @@ impl State {
 
     /// `*PURDECK`: decks with their cards.
     pub(crate) fn purge_decks(&mut self, ranges: &[NameRange]) -> Result<(), FaultKind>
-        ensures { Does result self.new (line_done (PurDeck ranges.now) [] self.old) }
+        ensures { Does result self.new (carried_out (judged (PurDeck ranges.now) [] self.old) self.old) }
     {
         let ages = decks_purged(&self.library, ranges)?;
         self.library.purge(&ages)?;

@@ -2,13 +2,15 @@
 ghost use Rattle.std.specs.Prelude.{◌≡◌, ◌+◌, ◌^◌, ◌<◌, ◌≤◌, ◌==◌, ◌||◌, false, nat_lt, not, [], length, Some, Ok, Err, MatchResult};
 ghost use Rattle.upd_core.specs.Edits.{new_card, next_age};
 ghost use Rattle.upd_core.specs.Library.{place_of};
+ghost use Rattle.upd_core.specs.Limits.{is_within_limits};
+ghost use Rattle.upd_deck.specs.Items.{Before, Ident, Insert};
 ghost use Rattle.upd_text.specs.Outcome.{Does, need, refuse_if};
 ghost use Rattle.upd_text.specs.declared.fault.FaultKind.TheVariants as fault;
 ghost use Rattle.upd_apply.specs.Applying.{started};
 ghost use Rattle.upd_apply.specs.declared.state.InsertPoint.TheVariants.{End, Inside, Nowhere};
 ghost use Rattle.upd_apply.specs.Numbers.{next_most};
-ghost use Rattle.upd_apply.specs.Step.{behind, deck_begun, is_deck_card, placed_after, placed_before, set_begun, within_limits};
-ghost use Rattle.upd_apply.specs.Step.{switched, text_put};
+ghost use Rattle.upd_apply.specs.LineEdits.{behind};
+ghost use Rattle.upd_apply.specs.Step.{carried_out, deck_judged, is_deck_card, judged, switch_judged, text_judged};
 
 use crate::names::new_name;
 use upd_core::{Card, Deck, Entry, Kind, Library, Place, Serial};
@@ -56,7 +58,7 @@ impl State {
 
     /// `*IDENT`: introduces a set, which is the current one.
     pub(crate) fn begin_set(&mut self, name: &Name) -> Result<(), FaultKind>
-        ensures { Does result self.new (set_begun name.now self.old) }
+        ensures { Does result self.new (carried_out (judged (Ident name.now) [] self.old) self.old) }
     {
         new_name(&self.library, name)?;
         let ident = next_age(&self.library)?;
@@ -75,7 +77,7 @@ impl State {
         noprop: bool,
         text: &[u8],
     ) -> Result<(), FaultKind>
-        ensures { Does result self.new (deck_begun name.now kind noprop text.now self.old) }
+        ensures { Does result self.new (carried_out (deck_judged name.now kind noprop text.now self.old) self.old) }
     {
         new_name(&self.library, name)?;
         let age = next_age(&self.library)?;
@@ -90,8 +92,8 @@ impl State {
     /// `*INSERT`: the next text follows a card.
     pub(crate) fn place_after(&mut self, card: &CardRef) -> Result<(), FaultKind>
         ensures { MatchResult result
-            (λ _. placed_after card.now self.old ≡ Ok self.new)
-            (λ e. placed_after card.now self.old ≡ Err e) }
+            (λ _. carried_out (judged (Insert card.now) [] self.old) self.old ≡ Ok self.new)
+            (λ e. carried_out (judged (Insert card.now) [] self.old) self.old ≡ Err e) }
     {
         self.known_set()?;
         let place = known_card(&self.library, card)?;
@@ -106,8 +108,8 @@ impl State {
     /// `*BEFORE`: the next text precedes a card.
     pub(crate) fn place_before(&mut self, card: &CardRef) -> Result<(), FaultKind>
         ensures { MatchResult result
-            (λ _. placed_before card.now self.old ≡ Ok self.new)
-            (λ e. placed_before card.now self.old ≡ Err e) }
+            (λ _. carried_out (judged (Before card.now) [] self.old) self.old ≡ Ok self.new)
+            (λ e. carried_out (judged (Before card.now) [] self.old) self.old ≡ Err e) }
     {
         self.known_set()?;
         let place = known_card(&self.library, card)?;
@@ -127,7 +129,7 @@ impl State {
         first: &CardRef,
         last: &CardRef,
     ) -> Result<(), FaultKind>
-        ensures { Does result self.new (switched active first.now last.now self.old) }
+        ensures { Does result self.new (carried_out (switch_judged active first.now last.now self.old) self.old) }
     {
         let current_set = self.known_set()?;
         let from = known_card(&self.library, first)?;
@@ -151,7 +153,8 @@ impl State {
     /// Text and calls: inserts a card at the insertion point.
     pub(crate) fn put_text(&mut self, text: &[u8]) -> Result<(), FaultKind>
         requires { next_most self.old + 1 < 2 ^ 32 }
-        ensures done { Does result self.new (text_put text.now self.old.insert_point self.old) }
+        ensures done { Does result self.new
+            (carried_out (text_judged text.now self.old.insert_point self.old.current_set) self.old) }
         ensures nowhere { self.old.insert_point ≡ Nowhere → result ≡ Err fault.TextNowhere }
     {
         match self.insert_point {
@@ -165,7 +168,8 @@ impl State {
     fn put_at_end(&mut self, deck: Serial, next: u32, text: &[u8]) -> Result<(), FaultKind>
         requires insert_point { self.old.insert_point ≡ End deck next }
         requires number { next_most self.old + 1 < 2 ^ 32 }
-        ensures { Does result self.new (text_put text.now self.old.insert_point self.old) }
+        ensures { Does result self.new
+            (carried_out (text_judged text.now self.old.insert_point self.old.current_set) self.old) }
     {
         let card = new_card(&self.library, deck, next, text)?;
         self.library.insert_card(deck, 0, card)?;
@@ -181,7 +185,8 @@ impl State {
     fn put_inside(&mut self, deck: Serial, behind: usize, text: &[u8]) -> Result<(), FaultKind>
         requires insert_point { self.old.insert_point ≡ Inside deck behind }
         requires number { next_most self.old + 1 < 2 ^ 32 }
-        ensures { Does result self.new (text_put text.now self.old.insert_point self.old) }
+        ensures { Does result self.new
+            (carried_out (text_judged text.now self.old.insert_point self.old.current_set) self.old) }
     {
         let CurrentSet { ident, next } = self.set_for_text()?;
         refuse_yanks(deck)?;
@@ -248,7 +253,9 @@ fn refuse_disorder(from: Place, to: Place) -> Result<(), FaultKind>
 
 /// Full where a library exceeds a limit.
 pub(crate) fn check_limits(library: &Library) -> Result<(), FaultKind>
-    ensures { MatchResult result (λ _. within_limits library.now ≡ Ok library.now) (λ e. within_limits library.now ≡ Err e) }
+    ensures { MatchResult result
+        (λ _. refuse_if (not (is_within_limits library.now)) fault.Full ≡ Ok false)
+        (λ e. refuse_if (not (is_within_limits library.now)) fault.Full ≡ Err e) }
 {
     if library.is_within_limits() {
         Ok(())

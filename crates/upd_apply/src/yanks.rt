@@ -2,10 +2,11 @@
 ghost use Rattle.std.specs.Prelude.{◌≡◌, ◌+◌, ◌^◌, ◌<◌, ◌&&◌, ◌||◌, ◌==◌, ℕ, [], ◌∷◌, ◌++◌, map, Ok, Err, Some, MatchResult, OnOk};
 ghost use Rattle.std.specs.List.{filter};
 ghost use Rattle.upd_text.specs.Outcome.{Does, Gives};
+ghost use Rattle.upd_deck.specs.Items.{SelYank, Yank, YankDeck};
 ghost use Rattle.upd_core.specs.declared.target.Target.TheVariants.{Set};
 ghost use Rattle.upd_apply.specs.Marks.{AreMarked, has_set};
 ghost use Rattle.upd_apply.specs.Numbers.{next_most};
-ghost use Rattle.upd_apply.specs.Step.{yank_put};
+ghost use Rattle.upd_apply.specs.Step.{carried_out, judged, yank_judged};
 ghost use Rattle.upd_apply.specs.Names.{is_in};
 ghost use Rattle.upd_core.specs.Targets.{is_same};
 ghost use Rattle.upd_apply.specs.Yanks.{deck_targets, decks_yanked, older_ages, once, pair_targets, pairs_yanked, sets_yanked};
@@ -21,7 +22,7 @@ impl State {
     /// `*YANK` of names and ranges.
     pub(crate) fn yank_sets(&mut self, text: &[u8], ranges: &[NameRange]) -> Result<(), FaultKind>
         requires { next_most self.old + 1 < 2 ^ 32 }
-        ensures { Does result self.new (yank_put text.now (sets_yanked ranges.now) self.old) }
+        ensures { Does result self.new (carried_out (judged (Yank ranges.now) text.now self.old) self.old) }
     {
         let current_set = self.known_set()?;
         let targets = sets_yanked(&self.library, current_set.ident, ranges)?;
@@ -31,7 +32,7 @@ impl State {
     /// `*SELYANK`: idents, each in one deck.
     pub(crate) fn yank_pairs(&mut self, text: &[u8], pairs: &[IdentIn]) -> Result<(), FaultKind>
         requires { next_most self.old + 1 < 2 ^ 32 }
-        ensures { Does result self.new (yank_put text.now (pairs_yanked pairs.now) self.old) }
+        ensures { Does result self.new (carried_out (judged (SelYank pairs.now) text.now self.old) self.old) }
     {
         let current_set = self.known_set()?;
         let targets = pairs_yanked(&self.library, current_set.ident, pairs)?;
@@ -41,7 +42,7 @@ impl State {
     /// `*YANKDECK`: whole decks.
     pub(crate) fn yank_decks(&mut self, text: &[u8], names: &[Name]) -> Result<(), FaultKind>
         requires { next_most self.old + 1 < 2 ^ 32 }
-        ensures { Does result self.new (yank_put text.now (decks_yanked names.now) self.old) }
+        ensures { Does result self.new (carried_out (judged (YankDeck names.now) text.now self.old) self.old) }
     {
         let current_set = self.known_set()?;
         let targets = decks_yanked(&self.library, current_set.ident, names)?;
@@ -57,7 +58,8 @@ impl State {
     ) -> Result<(), FaultKind>
         requires current_set { self.old.current_set ≡ Some current_set }
         requires number { current_set.next + 1 < 2 ^ 32 }
-        ensures { Does result self.new (yank_put text.now (λ _ _. Ok targets.items) self.old) }
+        ensures { Does result self.new
+            (carried_out (yank_judged text.now (λ _ _. Ok targets.items) self.old) self.old) }
     {
         let CurrentSet { ident, next } = current_set;
         let card = Card::new(self.library.allocator(), ident, next, text, targets)?;

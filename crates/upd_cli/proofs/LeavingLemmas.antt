@@ -1,20 +1,19 @@
 -- What commands leave, and how they fail.
-use Rattle.std.proofs.Common.{◌≡◌, ◌⊎◌, inl, inr, ℕ, List, Option, Result, ap, subst}
-use Rattle.std.proofs.KnownBytes.{Appends-nil}
-use Rattle.sqlite_wal.specs.Recovery.{Image}
-use Rattle.sqlite.specs.State.{State}
+use Rattle.std.proofs.Common.{◌≡◌, ◌⊎◌, inl, inr, ◌+◌, ℕ, List, Option, Result, Ok, Err, IfErr, IfOk, ap, arith, subst, sym, ◌∙◌}
 use Rattle.upd_text.specs.declared.fault.Fault.{Fault}
 use Rattle.upd_text.specs.declared.fault.FaultKind.TheVariants.{Write}
-use Rattle.upd_row_store.specs.declared.meaning.Meaning.{Ghosts}
+use Rattle.upd_text.specs.declared.limits.TheConstants.{MAX_RUN_BYTES}
 use Rattle.upd_row_store.specs.Keeping.{IsLost}
 use Rattle.upd_row_store.specs.Keeping.IsLost.{OfMemory, OfStore}
 use Rattle.upd_store.specs.Faults.{IsUnopened}
-use Rattle.upd_subcommands.specs.Command.{IsTold, ending}
-use Rattle.upd_cli.specs.Commands.{FailsFirst, Leaves, LeavesErrand}
-use Rattle.upd_subcommands.specs.Operands.{errand_of}
-use Rattle.upd_subcommands.specs.Status.{exit_status, fault_line}
-use Rattle.upd_subcommands.specs.declared.errands.Errand.{Errand}
-use Rattle.upd_words.specs.declared.words.Asked.{Asked}
+use Rattle.upd_subcommands.specs.Command.{IsEndOf}
+use Rattle.upd_subcommands.specs.Inputs.{Frames, HandsRuns, IsSpool, UsesFaults, ReadsFirst, WritesRefusals, most_read}
+use Rattle.upd_subcommands.specs.Status.{exit_status, no_memory, read_failed}
+use Rattle.upd_subcommands.specs.Streams.{Stream, TakesFront, after, before}
+use Rattle.upd_subcommands.proofs.FailingLemmas.{told_no_mistake}
+use Rattle.upd_subcommands.proofs.StreamLemmas.{takes_nothing}
+use Rattle.upd_words.specs.declared.words.Command.{Command}
+use Rattle.upd_words.specs.declared.words.Command.TheVariants.{Run, Settle, Spool, Serve, Correct, Try, Ask}
 
 -- a file that isn't opened ends a command as memory and the store do
 pub unopened_fails : (fault : Fault) → IsUnopened fault → exit_status fault.kind ≡ 3
@@ -27,16 +26,71 @@ pub backup_fails : (fault : Fault) → IsLost fault ⊎ (fault.kind ≡ Write) �
 backup_fails fault (inl lost) = unopened_fails fault (inl lost)
 backup_fails fault (inr is) = ap exit_status is
 
--- a failure is reported, and nothing is on the output
-pub fails_first : (fault : Fault) (status : ℕ) (output faults faults' : Option (List ℕ)) → exit_status fault.kind ≡ 3
-    → IsTold (exit_status fault.kind) (fault_line fault) status faults faults' → FailsFirst (ending status output output faults faults')
-fails_first fault status output faults faults' failed told =
-    (fault, failed, subst (λ meant. IsTold meant (fault_line fault) status faults faults') failed told, Appends-nil output)
+-- and an input that isn't read
+pub unread_fails : (fault : Fault) → (fault ≡ no_memory) ⊎ (fault ≡ read_failed) → exit_status fault.kind ≡ 3
+unread_fails fault (inl is) = ap (λ (f : Fault). exit_status f.kind) is
+unread_fails fault (inr is) = ap (λ (f : Fault). exit_status f.kind) is
 
--- what is read of a command is left by it
-pub leaves_as : {S C : Type 0} (meaning : Ghosts S) (conn_of : S → C) (state : C → State) (held : Image) (asked : Asked) (read : Result Errand Fault)
-    (ended : Result ℕ Fault) (input input' output output' : Option (List ℕ)) → read ≡ errand_of asked
-    → LeavesErrand meaning conn_of state held read ended input input' output output'
-    → Leaves meaning conn_of state held asked ended input input' output output'
-leaves_as meaning conn_of state held asked read ended input input' output output' is left =
-    subst (λ r. LeavesErrand meaning conn_of state held r ended input input' output output') is left
+-- a command that leaves all streams as they were
+pub untouched_frames : {R W E : Type 0} (input : Stream R) (output : Stream W) (faults : Stream E) (command : Command) (fault : Fault)
+    → exit_status fault.kind ≡ 3 → input.new ≡ input.old → output.new ≡ output.old → faults.new ≡ faults.old
+    → Frames input output faults command (Err fault)
+untouched_frames input output faults command fault failed unread unwritten quiet = record {
+  front = λ other. subst (TakesFront (MAX_RUN_BYTES + 1) (before input)) (sym (ap input.bytes unread)) (takes_nothing (MAX_RUN_BYTES + 1) (before input));
+  waits = λ other. unread;
+  refused = tt;
+  failed = λ one. inr unwritten;
+  clean = tt;
+  quiet = λ other. quiet;
+}
+
+-- ---- what is read first, and then at the desk
+
+-- all that is read is read before the file is opened, or after it
+pub front_all : (command : Command) (old mid new : Option (List ℕ)) → TakesFront (most_read command) old mid → (¬ (ReadsFirst command) → mid ≡ old)
+    → (¬ (HandsRuns command) → new ≡ mid) → (¬ (IsSpool command) → TakesFront (MAX_RUN_BYTES + 1) mid new) → ¬ (IsSpool command)
+    → TakesFront (most_read command) old new
+front_all (Run site number mode) old mid new first none waits front other =
+    subst (λ i. TakesFront (MAX_RUN_BYTES + 1) i new) (none (λ no. no)) (front other)
+front_all Spool old mid new first none waits front other = absurd (other tt)
+front_all (Settle site number) old mid new first none waits front other = subst (TakesFront (MAX_RUN_BYTES + 1) old) (sym (waits (λ no. no))) first
+front_all (Serve address count) old mid new first none waits front other = subst (TakesFront (MAX_RUN_BYTES + 1) old) (sym (waits (λ no. no))) first
+front_all (Correct set) old mid new first none waits front other = subst (TakesFront (most_read (Correct set)) old) (sym (waits (λ no. no))) first
+front_all (Try mode) old mid new first none waits front other = subst (TakesFront (MAX_RUN_BYTES + 1) old) (sym (waits (λ no. no))) first
+front_all (Ask query) old mid new first none waits front other = subst (TakesFront (MAX_RUN_BYTES + 1) old) (sym (waits (λ no. no))) first
+
+-- ---- how the end is told
+
+-- a status that is told of a command that ended with 0, or failed
+pub ended_well : (ended : Result ℕ Fault) (status : ℕ) (faults faults' : Option (List ℕ)) → IsEndOf ended status faults faults'
+    → IfOk ended (λ meant. meant ≡ 0) → IfErr ended (λ fault. exit_status fault.kind ≡ 3) → (status ≡ 0) ⊎ (status ≡ 3)
+ended_well (Ok meant) status faults faults' told zero failed = inl (told.0 ∙ zero)
+ended_well (Err fault) status faults faults' (inl told) zero failed = inr (told.0 ∙ failed)
+ended_well (Err fault) status faults faults' (inr told) zero failed = inr told.0
+
+-- such a status is not that of a refusal or a mistake
+pub not_refused : (P Q : Type 0) (status : ℕ) → (status ≡ 0) ⊎ (status ≡ 3) → (status ≡ 2) ⊎ ((status ≡ 1) × P) → Q
+not_refused P Q status (inl zero) (inl two) = absurd (omega (arith, zero, two))
+not_refused P Q status (inl zero) (inr one) = absurd (omega (arith, zero, one.0))
+not_refused P Q status (inr three) (inl two) = absurd (omega (arith, three, two))
+not_refused P Q status (inr three) (inr one) = absurd (omega (arith, three, one.0))
+
+-- where a command is refused without a word on the output, or makes a mistake, nothing is there
+pub silent_end : (Same Writes : Type 0) (ended : Result ℕ Fault) (status : ℕ) (faults faults' : Option (List ℕ)) → IsEndOf ended status faults faults'
+    → IfOk ended (λ meant. (meant ≡ 2) ⊎ ((meant ≡ 1) × ¬ Writes) → Same) → IfErr ended (λ fault. exit_status fault.kind ≡ 1 → Writes ⊎ Same)
+    → (status ≡ 2) ⊎ ((status ≡ 1) × ¬ Writes) → Same
+silent_end Same Writes (Ok meant) status faults faults' told refused failed (inl two) = refused (inl (sym told.0 ∙ two))
+silent_end Same Writes (Ok meant) status faults faults' told refused failed (inr one) = refused (inr (sym told.0 ∙ one.0, one.1))
+silent_end Same Writes (Err fault) status faults faults' told refused failed (inl two) = absurd (told_no_mistake fault.kind _ status faults faults' told two)
+silent_end Same Writes (Err fault) status faults faults' (inl told) refused failed (inr one) =
+    elim (failed (sym told.0 ∙ one.0)) [
+      | inl tells ↦ absurd (one.1 tells)
+      | inr same ↦ same
+    ]
+silent_end Same Writes (Err fault) status faults faults' (inr told) refused failed (inr one) = absurd (omega (arith, told.0, one.0))
+
+-- where all is done, nothing was reported before the end
+pub clean_end : (Same Uses : Type 0) (ended : Result ℕ Fault) (status : ℕ) (faults faults' : Option (List ℕ)) → IsEndOf ended status faults faults'
+    → IfOk ended (λ meant. meant ≡ 0 → ¬ Uses → Same) → IfErr ended (λ _. ¬ Uses → Same) → ¬ Uses → status ≡ 0 → Same
+clean_end Same Uses (Ok meant) status faults faults' told clean quiet other zero = clean (sym told.0 ∙ zero) other
+clean_end Same Uses (Err fault) status faults faults' told clean quiet other zero = quiet other

@@ -1,3 +1,2 @@
 pub mod LeavingLemmas
-pub mod WorkLemmas
 pub mod DoneLemmas

@@ -1,5 +1,4 @@
-pub mod Stored
-pub mod Works
 pub mod Opened
+pub mod Works
+pub mod Stored
 pub mod Commands
-pub mod CommandLine

@@ -1,72 +1,74 @@
--- What was done at the desk of a library, and over which store.
-use Rattle.std.specs.Prelude.{◌≡◌, ◌≢◌, ◌≤◌, ◌⊎◌, ◌+◌, ℕ, List, length, Result, IfErr, IfOk, IsErrAnd, IsOkAnd, OnOk}
+-- What a command does on the library in a file, and over which store.
+use Rattle.std.specs.Prelude.{◌≡◌, ◌⊎◌, ℕ, List, Result, IsErrAnd, IsOkAnd}
+use Rattle.sqlite_disk.specs.declared.Disk.{Ghosts as DiskGhosts}
+use Rattle.sqlite_store.specs.declared.store.FileStore.{FileStore}
 use Rattle.sqlite_wal.specs.Recovery.{Image}
-use Rattle.sqlite.specs.State.{State}
+use Rattle.sqlite.specs.Files.{file_state}
+use Rattle.sqlite.specs.Held.{Held}
 use Rattle.upd_text.specs.declared.fault.Fault.{Fault}
-use Rattle.upd_text.specs.declared.limits.TheConstants.{MAX_RUN_BYTES}
 use Rattle.upd_row_store.specs.declared.meaning.Meaning.{Ghosts}
+use Rattle.upd_sql.specs.Schema.{library_schema}
 use Rattle.upd_store.specs.Faults.{IsUnopened}
-use Rattle.upd_http.specs.Serving.{Made, LeadsThrough}
 use Rattle.upd_subcommands.specs.Command.{Ending, ending}
-use Rattle.upd_subcommands.specs.Errands.{CorrectsText, DoesErrand, TriesRun}
-use Rattle.upd_subcommands.specs.Inputs.{HandsRuns, IsSpool}
-use Rattle.upd_subcommands.specs.Listening.{ReportsPlace}
-use Rattle.upd_subcommands.specs.Status.{exit_status, read_failed}
-use Rattle.upd_subcommands.specs.Streams.{Stream, TakesFront, after, before}
-use Rattle.upd_subcommands.specs.declared.errands.Errand.{Errand}
-use Rattle.upd_cli.specs.Opened.{IsOpened, IsWarmed}
-use Rattle.upd_cli.specs.declared.work.Work.{Work}
-use Rattle.upd_cli.specs.declared.work.Work.TheVariants as work
+use Rattle.upd_subcommands.specs.DeskCommands.{Does, IsUnread}
+use Rattle.upd_subcommands.specs.Inputs.{Frames, IsFirstRead, ReadsFirst}
+use Rattle.upd_subcommands.specs.ListingFile.{CorrectsListed}
+use Rattle.upd_subcommands.specs.Streams.{Stream, after, before}
+use Rattle.upd_words.specs.declared.words.Command.{Command}
+use Rattle.upd_words.specs.declared.words.Command.TheVariants.{Correct, Serve}
+use Rattle.upd_cli.specs.Opened.{IsWarmed, OnFile}
 
 -- the ending with this status and these streams
 abbrev pub ending_of : {W E : Type 0} → ℕ → Stream W → Stream E → Ending
 ending_of status output faults = ending status (before output) (after output) (before faults) (after faults)
 
--- a store's meaning, and the streams of a command
-module _ {S : Type 0} (meaning : Ghosts S) {R W E : Type 0} (input : Stream R) (output : Stream W) (faults : Stream E) where
-  -- An errand was done, and no more of the input was read than it takes.
-  pub record EndsErrand (errand : Errand) (ended : Result ℕ Fault) (old new : S) : Type 0 where
-    pub does : DoesErrand meaning errand ended old new (before input) (after input) (before output) (after output)
-    pub front : ¬ (IsSpool errand) → TakesFront (MAX_RUN_BYTES + 1) (before input) (after input)
-    pub waits : ¬ (HandsRuns errand) → input.new ≡ input.old
-    pub status : IfOk ended (λ status. (status ≡ 0) ⊎ ((status ≡ 1) × HandsRuns errand))
-    pub silent : IfErr ended (λ fault. exit_status fault.kind ≡ 1 → HandsRuns errand ⊎ (output.new ≡ output.old))
-
-  -- An edited text was answered.
-  pub record EndsCorrection (set text : List ℕ) (status : ℕ) (old new : S) : Type 0 where
-    pub tells : CorrectsText meaning set text old new (ending_of status output faults)
-    pub silent : (status ≡ 1) ⊎ (status ≡ 2) → output.new ≡ output.old
-    pub clean : status ≡ 0 → faults.new ≡ faults.old
-
-  -- At most this number of connections were served, all of them unless a read failed. Before them the fault stream got the address.
-  pub record EndsServing (count : ℕ) (ended : Result ℕ Fault) (old new : S) : Type 0 where
-    pub leads : (made : List Made) × (length made ≤ count) × OnOk ended (length made ≡ count) × LeadsThrough meaning made old new
-    pub reports : (written : Result (Unit {0}) Fault) × ReportsPlace written (before faults) (after faults)
-    pub err : IfErr ended (λ fault. fault ≡ read_failed)
-
-  -- work was done, and ended so
-  abbrev pub DoesWork : Work → Result ℕ Fault → S → S → Type 0
-  DoesWork (work.Errand errand) ended old new = EndsErrand errand.now ended old new
-  DoesWork (work.Try mode run) ended old new =
-      IsOkAnd ended (λ status. (status ≢ 2) × TriesRun meaning mode.now run.now old new (ending_of status output faults))
-  DoesWork (work.Correct set text) ended old new = IsOkAnd ended (λ status. EndsCorrection set.now text.now status old new)
-  DoesWork (work.Serve address count) ended old new = EndsServing count ended old new
-
 -- before connections are served the rows are read into memory
-abbrev pub Begins : {S : Type 0} → Ghosts S → Work → S → S → Type 0
-Begins meaning (work.Serve address count) old begun = IsWarmed meaning old begun
+abbrev pub Begins : {S : Type 0} → Ghosts S → Command → S → S → Type 0
+Begins meaning (Serve address count) old begun = IsWarmed meaning old begun
 Begins meaning _ old begun = begun ≡ old
 
-module _ {S : Type 0} (meaning : Ghosts S) {R W E : Type 0} (input : Stream R) (output : Stream W) (faults : Stream E) where
-  -- work was done over a store of which this held
-  abbrev pub WorksFrom : (S → Type 0) → Work → Result ℕ Fault → Type 0
-  WorksFrom Held work ended =
-      (old : S) × (begun : S) × (new : S) × Held old × Begins meaning work old begun × DoesWork meaning input output faults work ended begun new
+-- an edited text was answered from a listing
+abbrev pub AnswersListing : Command → List ℕ → Ending → Type 0
+AnswersListing (Correct set) text end = CorrectsListed set.now text end
+AnswersListing _ text end = ⊥
 
--- The store over the file: its meaning, its connection, the state of a connection, and what the file held before.
-module _ {S C : Type 0} (meaning : Ghosts S) (conn_of : S → C) (state : C → State) (held : Image)
+module _ {S : Type 0} (meaning : Ghosts S) {R W E : Type 0} (input : Stream R) (output : Stream W) (faults : Stream E) where
+  -- The rows were read into memory where the command wants them there, and it was carried out.
+  pub record Works (command : Command) (text : List ℕ) (ended : Result ℕ Fault) (old new : S) : Type 0 where
+    pub begun : S
+    pub begins : Begins meaning command old begun
+    pub does : Does meaning command text ended begun new input output faults
+
+  -- A command was carried out from a store of which this held, and of the store that it left this holds.
+  pub record Runs (Held Left : S → Type 0) (command : Command) (text : List ℕ) (ended : Result ℕ Fault) : Type 0 where
+    pub works : (old : S) × (new : S) × Held old × Works command text ended old new × Left new
+    pub frames : Frames input output faults command ended
+
+-- The store over the file: its meaning, its connection, and what the file held before.
+module _ {S D : Type 0} {g : DiskGhosts D} (meaning : Ghosts S) (conn_of : S → Held (FileStore D g)) (held : Image)
     {R W E : Type 0} (input : Stream R) (output : Stream W) (faults : Stream E) where
-  -- Work was done at the desk of the library in the file; or the file can't be opened, and nothing is read or written.
-  pub record WorksOn (work : Work) (ended : Result ℕ Fault) : Type 0 where
-    pub works : WorksFrom meaning input output faults (IsOpened meaning conn_of state held) work ended
-        ⊎ (IsErrAnd ended IsUnopened × (input.new ≡ input.old) × (output.new ≡ output.old) × (faults.new ≡ faults.old))
+  -- nothing was read or written, since the file can't be opened
+  abbrev pub IsUntouched : Result ℕ Fault → Type 0
+  IsUntouched ended = IsErrAnd ended IsUnopened × (input.new ≡ input.old) × (output.new ≡ output.old) × (faults.new ≡ faults.old)
+
+  -- a command was carried out at the desk of the library in the file
+  abbrev pub WorksOn : Command → List ℕ → Result ℕ Fault → Type 0
+  WorksOn command text ended =
+      OnFile meaning (λ s. (file_state (conn_of s)).committed.trees) (λ s. (file_state (conn_of s)).committed.schema ≡ library_schema) held
+      (Works meaning input output faults command text ended)
+
+  -- Over what was read first a command was carried out at the desk of the library in the file; or an edited text was answered from the listing in it; or
+  -- it can't be opened.
+  pub record LeavesFrom (command : Command) (text : List ℕ) (ended : Result ℕ Fault) : Type 0 where
+    pub leaves : WorksOn command text ended
+        ⊎ ((IsOkAnd ended (λ status. AnswersListing command text (ending_of status output faults))) ⊎ IsUntouched ended)
+    pub frames : Frames input output faults command ended
+
+module _ {S D : Type 0} {g : DiskGhosts D} (meaning : Ghosts S) (conn_of : S → Held (FileStore D g)) (held : Image)
+    {R W E : Type 0} (input : Stream R) (output : Stream W) (faults : Stream E) where
+  -- what is read first was read, and then the command left this; or it can't be read, and nothing is written
+  abbrev pub Leaves : Command → Result ℕ Fault → Type 0
+  Leaves command ended =
+      ((text : List ℕ) × (mid : R) × IsFirstRead command (before input) (input.bytes mid) text
+      × LeavesFrom meaning conn_of held (record input { old = mid }) output faults command text ended)
+      ⊎ (ReadsFirst command × IsUnread ended × (output.new ≡ output.old) × (faults.new ≡ faults.old))

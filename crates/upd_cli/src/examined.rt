@@ -2,9 +2,9 @@
 ghost use Rattle.std.specs.Prelude.{◌≡◌, ◌⊎◌, ◌++◌, ℕ, Result};
 ghost use Rattle.sqlite.specs.Files.{file_state};
 ghost use Rattle.sqlite_wal.specs.Files.{image_at};
-ghost use Rattle.upd_subcommands.specs.Command.{IsEndOf, IsTold, ending};
-ghost use Rattle.upd_cli.specs.Commands.{IsExamined, TellsReport, log_line, situation_line};
-ghost use Rattle.upd_subcommands.specs.Telling.{Writes};
+ghost use Rattle.upd_subcommands.specs.Command.{IsEndOf, IsReported, ending};
+ghost use Rattle.upd_cli.specs.Commands.{IsExamined, WritesReport, log_line, situation_line};
+ghost use Rattle.upd_subcommands.specs.Reporting.{Writes};
 ghost use Rattle.upd_text.specs.declared.fault.Fault.{Fault};
 
 use sqlite::{FileFrom, Start};
@@ -22,32 +22,32 @@ pub(crate) fn report_on<St: Start, W: Write, E: Write>(
     output: &mut W,
     faults: &mut E,
 ) -> u8
-    ensures told { IsExamined (file_state {g = ⟦<FileFrom<St> as Disk>⟧}) (image_at St.Start)
+    ensures reported { IsExamined (file_state {g = ⟦<FileFrom<St> as Disk>⟧}) (image_at St.Start)
         (ending result (W.contents output.old) (W.contents output.new) (E.contents faults.old) (E.contents faults.new)) }
     ensures silent { (result ≡ 1) ⊎ (result ≡ 2) → output.new ≡ output.old }
     ensures clean { result ≡ 0 → faults.new ≡ faults.old }
 {
     match examine(rt, path, start) {
-        Ok(report) => tell_report(&report, output, faults),
+        Ok(report) => write_report(&report, output, faults),
         Err(fault) => finish(Err(fault), faults),
     }
 }
 
 /// Writes a report, and returns the exit status.
-fn tell_report<W: Write, E: Write>(report: &Report, output: &mut W, faults: &mut E) -> u8
-    ensures told { TellsReport report.now (ending result (W.contents output.old) (W.contents output.new)
+fn write_report<W: Write, E: Write>(report: &Report, output: &mut W, faults: &mut E) -> u8
+    ensures reported { WritesReport report.now (ending result (W.contents output.old) (W.contents output.new)
         (E.contents faults.old) (E.contents faults.new)) }
     ensures silent { (result ≡ 1) ⊎ (result ≡ 2) → output.new ≡ output.old }
     ensures clean { result ≡ 0 → faults.new ≡ faults.old }
 {
     match report {
         Report::Library(Examined::Sound(line), log) => {
-            tell_sound(log_line(*log), line, output, faults)
+            write_sound(log_line(*log), line, output, faults)
         }
         Report::Library(Examined::Unsound(lines), log) => {
-            tell_unsound(log_line(*log), lines, faults)
+            write_unsound(log_line(*log), lines, faults)
         }
-        Report::Other(situation) => tell_situation(situation.words(), faults),
+        Report::Other(situation) => write_situation(situation.words(), faults),
     }
 }
 
@@ -63,8 +63,8 @@ fn log_line(log: bool) -> &'static [u8]
 }
 
 /// Writes what comes first and the line of a sound library to the output, and returns the exit status.
-fn tell_sound<W: Write, E: Write>(first: &[u8], line: &[u8], output: &mut W, faults: &mut E) -> u8
-    ensures told { (ended : Result ℕ Fault) × Writes 0 (first.now ++ line.now) ended (W.contents output.old) (W.contents output.new)
+fn write_sound<W: Write, E: Write>(first: &[u8], line: &[u8], output: &mut W, faults: &mut E) -> u8
+    ensures reported { (ended : Result ℕ Fault) × Writes 0 (first.now ++ line.now) ended (W.contents output.old) (W.contents output.new)
         × IsEndOf ended result (E.contents faults.old) (E.contents faults.new) }
     ensures status { (result ≡ 0) ⊎ (result ≡ 3) }
     ensures clean { result ≡ 0 → faults.new ≡ faults.old }
@@ -76,8 +76,8 @@ fn tell_sound<W: Write, E: Write>(first: &[u8], line: &[u8], output: &mut W, fau
 }
 
 /// Writes what comes first and what is wrong with a library to the fault stream, and returns the exit status.
-fn tell_unsound<E: Write>(first: &[u8], lines: &[u8], faults: &mut E) -> u8
-    ensures told { IsTold 1 (first.now ++ lines.now) result (E.contents faults.old) (E.contents faults.new) }
+fn write_unsound<E: Write>(first: &[u8], lines: &[u8], faults: &mut E) -> u8
+    ensures reported { IsReported 1 (first.now ++ lines.now) result (E.contents faults.old) (E.contents faults.new) }
     ensures status { (result ≡ 1) ⊎ (result ≡ 3) }
 {
     match write_parts_out(faults, &[first, lines]) {
@@ -87,8 +87,8 @@ fn tell_unsound<E: Write>(first: &[u8], lines: &[u8], faults: &mut E) -> u8
 }
 
 /// Writes why there is no library to examine to the fault stream, and returns the exit status.
-fn tell_situation<E: Write>(words: &str, faults: &mut E) -> u8
-    ensures told { IsTold 3 (situation_line words.now) result (E.contents faults.old) (E.contents faults.new) }
+fn write_situation<E: Write>(words: &str, faults: &mut E) -> u8
+    ensures reported { IsReported 3 (situation_line words.now) result (E.contents faults.old) (E.contents faults.new) }
     ensures status { result ≡ 3 }
 {
     let _ = write_parts_out(faults, &[b"upd: ", words.as_bytes(), b"\n"]);

@@ -15,7 +15,7 @@ ghost use Rattle.upd_compile.specs.Listings.{ident_line, ident_listing, is_purge
 ghost use Rattle.upd_compile.specs.Listings.{target_line, yank_lines, yank_listing};
 
 use crate::idents::{ident_at, name_of};
-use crate::parts::push_parts;
+use crate::text_parts::push_parts;
 use itoa::Buffer;
 use std::alloc::{AllocError, Global};
 use upd_core::{Card, Entry, Ident, Kind, Library, Live, Serial, Target};
@@ -23,6 +23,13 @@ use upd_text::{CardRef, Fault, FaultKind, Name};
 
 /// Lists a deck: its head line, then its cards, each with A (active) or I (inactive). `YANK$$$` can be listed too;
 /// there active means live. DeckUnknown where no held deck has the name.
+///
+/// ```text
+/// DECK A
+/// A A.1 *DECK A
+/// I A.2 ONE
+/// A X.1 NEW
+/// ```
 pub fn list_deck(alloc: Global, library: &Library, name: &Name) -> Result<Vec<u8>, Fault>
     ensures { GivesAt (λ text. text.items) result (deck_listing name.now library.now) }
 {
@@ -41,6 +48,13 @@ pub fn list_card(alloc: Global, library: &Library, card: CardRef) -> Result<Vec<
 }
 
 /// Lists all idents ever introduced, in order of serial.
+///
+/// ```text
+/// 1 UNITS comdeck held
+/// 2 ORBIT deck held
+/// 3 P1 set held
+/// 4 P2 set purged
+/// ```
 pub fn list_idents(alloc: Global, library: &Library) -> Result<Vec<u8>, Fault>
     ensures ok { IfOk result (λ text. text.items ≡ ident_listing library.now) }
     ensures err { IsOkUnless result (fault_at NoMemory 0) }

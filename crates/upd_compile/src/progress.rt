@@ -7,7 +7,7 @@ ghost use Rattle.upd_compile.specs.File.{blanks, card_line, from_left, from_righ
 ghost use Rattle.upd_compile.specs.Progress.{at_start, after_event, file_so_far};
 ghost use Rattle.upd_compile.specs.Walk.WalkEvent.{Line, Follow};
 
-use crate::file::CompileFile;
+use crate::compiled_file::CompileFile;
 use crate::idents::name_of;
 use itoa::Buffer;
 use std::alloc::{AllocError, Global};

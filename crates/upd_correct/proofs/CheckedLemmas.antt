@@ -14,7 +14,7 @@ use Rattle.upd_correct.specs.Corrections.{NewDeck}
 use Rattle.upd_correct.specs.Correcting.{BeginsWithSet, CorrectsTo, IsSublist, KeepsCards, Kept, Left}
 use Rattle.upd_correct.specs.Correcting.{None as Nothing}
 use Rattle.upd_correct.specs.EditedText.{HasDecks}
-use Rattle.upd_correct.specs.Checked.{AreDecksFrom, AreLeft, Corrects, Empty, Goes, IsChecked, IsDeckLeft, LeadsCards, LeavesCards, New, Old, Stays, held_serials}
+use Rattle.upd_correct.specs.Checked.{HasTexts, AreDecksFrom, AreLeft, Corrects, Empty, Goes, IsChecked, IsDeckLeft, LeadsCards, LeavesCards, New, Old, Stays, held_serials}
 
 -- ---- the cards that stay
 
@@ -150,11 +150,12 @@ cards_kept l m yanks t leaves d held =
     (live_same l m yanks) (left_kept (live_targets l) d (next_age l) (cards_of d l) (cards_of d m) (leaves d held))
 
 pub checked_corrects : (l : LibraryView) (set text run : List ℕ) (decks : List NewDeck) → HasDecks text decks → BeginsWithSet set run
-    → IsChecked l set run decks → CorrectsTo l set text run
-checked_corrects l set text run decks given named is = record {
+    → (AllByRecursion (HasTexts l) decks → run ≡ []) → IsChecked l set run decks → CorrectsTo l set text run
+checked_corrects l set text run decks given named needed is = record {
   decks = decks;
   given = given;
   named = named;
+  needed = needed;
   lines = is.lines;
   after = is.after;
   read = is.read;

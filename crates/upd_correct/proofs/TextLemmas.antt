@@ -15,6 +15,16 @@ texts_are now d texts lines x some first rest view =
     ap (map now) (first_and_more texts x some) ∙ ap (λ t. t ∷ map now (take (length texts - 1) (drop 1 texts))) first
     ∙ ap (λ ts. d.first ∷ ts) (rest ∙ sym (map-map (λ (line : RunLine). line.text) (λ t. card_line (now t)) lines) ∙ ap (map (λ (line : RunLine). line.text)) view)
 
+-- the other way
+pub texts_split : {X : Type 0} (now : X → List ℕ) (d : NewDeck) (texts lines : List X) (x : X) → 0 < length texts
+    → map (λ t. card_line (now t)) lines ≡ d.lines → map now texts ≡ texts_of d
+    → (now (get_or texts 0 x) ≡ d.first) × (map now (take (length texts - 1) (drop 1 texts)) ≡ map now lines)
+texts_split now d texts lines x some view is =
+    let whole = sym (ap (map now) (first_and_more texts x some)) ∙ is in (
+      ap (λ ts. get_or ts 0 []) whole,
+      ap (drop 1) whole ∙ sym (ap (map (λ (line : RunLine). line.text)) view) ∙ map-map (λ (line : RunLine). line.text) (λ t. card_line (now t)) lines,
+    )
+
 pub feed_first : (rest : List ℕ) → 0 < length rest → IsTrue (get_or rest 0 0 == 10) → rest ≡ 10 ∷ drop 1 rest
 feed_first [] some is = absurd (omega (arith, some))
 feed_first (b ∷ rest) some is = ap (λ (x : ℕ). x ∷ rest) ((Decides-eqb b 10).0 is)

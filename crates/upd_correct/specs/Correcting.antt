@@ -30,11 +30,12 @@ KeepsCards before after d =
 abbrev pub BeginsWithSet : Bytes → Bytes → Type 0
 BeginsWithSet set run = (run ≡ []) ⊎ ((rest : Bytes) × (run ≡ codes "*IDENT " ++ (set ++ 10 ∷ rest)))
 
--- A run by a set leads the decks of an edited text to it, and changes nothing else.
+-- A run by a set leads the decks of an edited text to it, and changes nothing else. Where they have their texts already, it is empty.
 pub record CorrectsTo (l : LibraryView) (set text run : Bytes) : Type 0 where
   pub decks : List NewDeck
   pub given : HasDecks text decks
   pub named : BeginsWithSet set run
+  pub needed : AllByRecursion (HasTexts l) decks → run ≡ []
   pub lines : List LineView
   pub after : Reached
   pub read : reading run ≡ Ok lines

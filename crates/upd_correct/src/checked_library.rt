@@ -1,6 +1,7 @@
 //! Libraries before and after a run.
 
 ghost use Rattle.std.specs.Prelude.{◌≡◌, ◌+◌, ℕ, [], Some, length, map, take, drop, IsTrue, IfOk};
+ghost use Rattle.std.specs.Bool.{Decides};
 ghost use Rattle.std.specs.List.{AllByRecursion, AllZip};
 ghost use Rattle.std.specs.Result.{IsOkUnless};
 ghost use Rattle.upd_text.specs.Faults.{fault_at};
@@ -113,7 +114,7 @@ fn has_texts(
     live: &Live,
     deck: &EditedDeck,
 ) -> Result<bool, AllocError>
-    ensures { live.now.targets ≡ live_targets after.now → IfOk result (λ ok. IsTrue ok → HasTexts after.now deck.now) }
+    ensures { live.now.targets ≡ live_targets after.now → IfOk result (λ ok. Decides ok (HasTexts after.now deck.now)) }
 {
     let Some(age) = after.deck_of(&deck.name) else {
         return Ok(false);
@@ -123,14 +124,14 @@ fn has_texts(
 }
 
 /// The same for all decks of a text.
-fn have_texts(
+pub(crate) fn have_texts(
     alloc: Global,
     after: &Library,
     live: &Live,
     decks: &[EditedDeck],
 ) -> Result<bool, AllocError>
     ensures { live.now.targets ≡ live_targets after.now
-        → IfOk result (λ ok. IsTrue ok → AllByRecursion (HasTexts after.now) decks.now) }
+        → IfOk result (λ ok. Decides ok (AllByRecursion (HasTexts after.now) decks.now)) }
 {
     for deck in decks {
         if !has_texts(alloc, after, live, deck)? {

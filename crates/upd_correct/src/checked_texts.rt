@@ -1,6 +1,6 @@
 //! The texts of a deck after a run.
 
-ghost use Rattle.std.specs.Prelude.{◌≡◌, map, IsTrue, IfOk};
+ghost use Rattle.std.specs.Prelude.{◌≡◌, map, IfOk};
 ghost use Rattle.std.specs.Bool.{Decides};
 ghost use Rattle.std.specs.List.{filter};
 ghost use Rattle.upd_core.specs.Status.{is_active};
@@ -32,7 +32,7 @@ pub(crate) fn active_texts<'a>(
 
 /// Whether lists of texts are the same.
 fn are_same_texts(some: &[&[u8]], others: &[&[u8]]) -> bool
-    ensures { IsTrue result → map (λ t. t.now) some.now ≡ map (λ t. t.now) others.now }
+    ensures { Decides result (map (λ t. t.now) some.now ≡ map (λ t. t.now) others.now) }
 {
     if some.len() != others.len() {
         return false;
@@ -47,7 +47,7 @@ fn are_same_texts(some: &[&[u8]], others: &[&[u8]]) -> bool
 
 /// Whether texts are those of a deck.
 pub(crate) fn are_texts_of(texts: &[&[u8]], deck: &EditedDeck) -> bool
-    ensures { IsTrue result → map (λ t. t.now) texts.now ≡ texts_of deck.now }
+    ensures { Decides result (map (λ t. t.now) texts.now ≡ texts_of deck.now) }
 {
     match texts {
         [] => false,

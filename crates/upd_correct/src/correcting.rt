@@ -35,6 +35,13 @@ use upd_text::{Fault, FaultKind};
 /// The text is one or more decks, each with its first line. A deck that isn't held is introduced. Cards that stay are
 /// not touched, and inactive cards are left as they are. The run is applied to a copy of the library, and returned only
 /// if this leads to the text and changes nothing else.
+///
+/// ```text
+/// deck A         edited to      run
+/// ONE            NEW            *IDENT X
+/// TWO            TWO            *DELETE A.2
+///                               NEW
+/// ```
 pub fn correct(
     alloc: Global,
     library: &Library,

@@ -5,6 +5,7 @@
 //! changes (`checking`). `correct_listed` does it for a deck that is known by its listing alone.
 #![tactic(auto)]
 
+mod bits;
 mod checked_cards;
 mod checked_decks;
 mod checked_idents;
@@ -12,18 +13,19 @@ mod checked_library;
 mod checked_texts;
 mod checking;
 pub mod correcting;
+mod edit_paths;
 mod edited_deck;
 mod edited_lines;
 mod listed_card;
 pub mod listed_deck;
 pub mod listed_laws;
 mod matching;
+mod older_cards;
 mod other_deck;
 mod plan;
 mod read_line;
 pub mod refusal;
 mod script;
-mod unique_lines;
 mod writer;
 
 pub use correcting::correct;

@@ -17,7 +17,7 @@ use crate::script::Segment;
 use itoa::Buffer;
 use std::alloc::{AllocError, Global};
 use std::marker::Model;
-use upd_compile::parts::push_parts;
+use upd_compile::text_parts::push_parts;
 use upd_core::card::card_ref;
 use upd_core::{Card, CardRef, Ident};
 

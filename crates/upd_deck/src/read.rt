@@ -19,6 +19,12 @@ use upd_text::{Fault, FaultKind};
 /// Reads a run. A run over a limit is refused at line 0, with RunLong (65,536 bytes) or TooManyLines (2,000 lines).
 /// Otherwise the first faulty line decides, and the fault has its number: BadByte, LineLong, BadField, BadName or
 /// BadCard. NoMemory is at line 0.
+///
+/// ```text
+/// *IDENT X       the item Ident, with the name X
+/// *DELETE A.2    the item Delete, from A.2 to A.2
+/// NEW            the item Text
+/// ```
 pub fn read_run(alloc: Global, bytes: &[u8]) -> Result<Run<'_>, Fault>
     ensures reading { GivesAt (λ run. run) result (reading bytes.now) }
 {

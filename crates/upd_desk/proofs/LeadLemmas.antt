@@ -28,8 +28,8 @@ use Rattle.upd_yank.specs.Affected.{affected, altered}
 use Rattle.upd_yank.proofs.RightLemmas.{least_affected}
 use Rattle.upd_desk.specs.declared.outcome.AppliedRun.{AppliedRun}
 use Rattle.upd_desk.specs.declared.outcome.RunOutcome.{RunOutcome}
-use Rattle.upd_desk.specs.Arrivals.{ArrivalView}
-use Rattle.upd_desk.specs.Compiling.{IsOutcomeOf, IsAppliedRun}
+use Rattle.upd_desk.specs.Arrivals.{ArrivalView, check_arrival}
+use Rattle.upd_desk.specs.Compiling.{IsOutcomeOf, IsAppliedRun, IsRefusal}
 use Rattle.upd_desk.specs.Holding.{AddsRun}
 use Rattle.upd_desk.specs.Journal.{Heard, run_of}
 use Rattle.upd_desk.specs.Made.{IsMade, LeadTo, looked_at}
@@ -114,13 +114,12 @@ accepted_outcome mode a l rows done changes o is reply are leads work least = re
 
 -- what is known of the outcome of a run that is refused
 pub refused_outcome : (mode : Mode) (a : ArrivalView) (l : LibraryView) (rows : Rows) (f : Fault) (o : RunOutcome) → IsMade l → Shows rows l
-    → ShowsStates rows l → compiled mode a.bytes l ≡ Err f → o.reply ≡ (outcome_by a l (Err f)).reply → o.changes.items ≡ [] → o.work ≡ 0
-    → IsOutcomeOf mode a l rows o
-refused_outcome mode a l rows f o made shows states is reply none idle = record {
-  reply = reply ∙ ap (λ r. (outcome_by a l r).reply) (sym is);
+    → ShowsStates rows l → check_arrival a ≡ Ok mode → compiled mode a.bytes l ≡ Err f → IsRefusal a f o → IsOutcomeOf mode a l rows o
+refused_outcome mode a l rows f o made shows states passed is refusal = record {
+  reply = refusal.reply mode l passed ∙ ap (λ r. (outcome_by a l r).reply) (sym is);
   leads = subst (λ r. LeadTo (map change_view o.changes.items) rows (outcome_by a l r).library) (sym is)
-      (subst (λ cs. LeadTo (map change_view cs) rows l) (sym none) (record { fit = tt; library = shows; states = states }));
-  work = idle ∙ ap (looked_at l) (sym is);
+      (subst (λ cs. LeadTo (map change_view cs) rows l) (sym refusal.changes) (record { fit = tt; library = shows; states = states }));
+  work = refusal.work ∙ ap (looked_at l) (sym is);
   least = least_refused mode a l f o.work made.sound is;
 }
 

@@ -1,3 +1,4 @@
+mod ReplyLemmas
 mod JournalLemmas
 mod KeptLemmas
 mod RepeatLemmas
@@ -18,5 +19,6 @@ mod StandingLemmas
 mod NeededLemmas
 mod FileLemmas
 mod LeadLemmas
+mod LookingLemmas
 mod WorkLemmas
 mod LawLemmas

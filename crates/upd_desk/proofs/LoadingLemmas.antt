@@ -9,17 +9,19 @@ use Rattle.upd_text.specs.declared.card_ref.CardRef.{CardRef}
 use Rattle.upd_core.specs.declared.library.Place.{Place}
 use Rattle.upd_core.specs.Edits.{is_among}
 use Rattle.upd_core.specs.First.{index_from}
-use Rattle.upd_core.specs.Library.{DeckView, LibraryView, ident_of, is_card, place_in}
+use Rattle.upd_core.specs.Library.{DeckView, LibraryView, ident_of, is_card, place_in, ref_of}
 use Rattle.upd_core.specs.Parts.{part_of}
 use Rattle.upd_core.specs.Sound.{IsSound}
 use Rattle.upd_core.proofs.ApartLemmas.{all_at, all_mapped}
 use Rattle.upd_core.proofs.FoundLemmas.{place_found}
 use Rattle.upd_deck.specs.Items.{LineView}
-use Rattle.upd_row_store.specs.Asked.{decks_with}
+use Rattle.upd_records.specs.Rows.{same_ref}
+use Rattle.upd_row_store.specs.Asked.{are_in_yanks, decks_with}
 use Rattle.upd_row_store.specs.Keeping.{reads_with}
-use Rattle.upd_partial.specs.Needed.{cards_named, decks_needed, is_yank_card}
+use Rattle.upd_partial.specs.Needed.{AreAlike, cards_named, decks_needed, is_yank_card}
 use Rattle.upd_partial.specs.Needless.{is_plain}
 use Rattle.upd_partial.proofs.CountLemmas.{decks_few, whole_part}
+use Rattle.upd_partial.proofs.NeededLemmas.{none_yank}
 use Rattle.upd_deck.specs.Reading.{reading}
 use Rattle.upd_desk.specs.Needed.{needed}
 
@@ -81,29 +83,42 @@ all_ages l = map (λ d. d.ident) l.decks
 pub needs_all : (lines : List LineView) (l : LibraryView) → is_plain lines ≡ false → decks_needed lines l ≡ all_ages l
 needs_all lines l plain = rw plain refl
 
-pub needs_yanks : (lines : List LineView) (l head : LibraryView) (cards : List CardRef) → IsSound l → head ≡ part_of [] l → cards ≡ cards_named lines
-    → list_any (is_yank_card head) cards ≡ true → decks_needed lines l ≡ all_ages l
-needs_yanks lines l head cards sound is named yanks = go (is_plain lines)
+pub needs_yanks : (lines : List LineView) (l head : LibraryView) (cards asked : List CardRef) → IsSound l → head ≡ part_of [] l
+    → AreAlike cards (cards_named lines) → asked ≡ cards → list_any (is_yank_card head) asked ≡ true → decks_needed lines l ≡ all_ages l
+needs_yanks lines l head cards asked sound is alike are yanks = go (is_plain lines)
   where
     some : list_any (is_yank_card l) (cards_named lines) ≡ true
-    some = ap (list_any (is_yank_card l)) (sym named) ∙ sym (yanks_same l head cards sound is) ∙ yanks
+    some = sym (alike (is_yank_card l)) ∙ sym (yanks_same l head cards sound is) ∙ ap (list_any (is_yank_card head)) (sym are) ∙ yanks
 
     go : (plain : Bool)
         → (if plain && not (list_any (is_yank_card l) (cards_named lines)) then decks_with (cards_named lines) l else all_ages l) ≡ all_ages l
     go true = rw some refl
     go false = refl
 
-pub needs_standing : (lines : List LineView) (l : LibraryView) (cards : List CardRef) → is_plain lines ≡ true → cards ≡ cards_named lines
-    → list_any (is_yank_card l) cards ≡ false → decks_needed lines l ≡ decks_with cards l
-needs_standing lines l cards plain named none =
-    let no : list_any (is_yank_card l) (cards_named lines) ≡ false = ap (list_any (is_yank_card l)) (sym named) ∙ none in
-    let same : decks_needed lines l ≡ decks_with (cards_named lines) l = rw (plain, no) refl in
-    same ∙ ap (λ cs. decks_with cs l) (sym named)
+-- the same cards are in the same decks
+same_decks : (cards others : List CardRef) (l : LibraryView) → AreAlike cards others → decks_with cards l ≡ decks_with others l
+same_decks cards others l alike =
+    ap (λ (asked : CardRef → Bool). map (λ d. d.ident) (filter (λ (d : DeckView). list_any (λ c. asked (ref_of l.idents c)) d.cards) l.decks))
+    (λ i card. alike (λ c. same_ref c card) i)
 
-pub needs_named : (lines : List LineView) (l head : LibraryView) (cards : List CardRef) → IsSound l → is_plain lines ≡ true → head ≡ part_of [] l
-    → cards ≡ cards_named lines → list_any (is_yank_card head) cards ≡ false → decks_needed lines l ≡ decks_with cards l
-needs_named lines l head cards sound plain is named none =
-    needs_standing lines l cards plain named (sym (yanks_same l head cards sound is) ∙ none)
+needs_unyanked : (lines : List LineView) (l : LibraryView) (cards : List CardRef) → is_plain lines ≡ true → AreAlike cards (cards_named lines)
+    → list_any (is_yank_card l) cards ≡ false → decks_needed lines l ≡ decks_with cards l
+needs_unyanked lines l cards plain alike none =
+    let no : list_any (is_yank_card l) (cards_named lines) ≡ false = sym (alike (is_yank_card l)) ∙ none in
+    let same : decks_needed lines l ≡ decks_with (cards_named lines) l = rw (plain, no) refl in
+    same ∙ sym (same_decks cards (cards_named lines) l alike)
+
+-- where `YANK$$$` has none of them
+pub needs_named : (lines : List LineView) (l : LibraryView) (cards asked : List CardRef) → IsSound l → is_plain lines ≡ true
+    → AreAlike cards (cards_named lines) → asked ≡ cards → are_in_yanks asked l ≡ false → decks_needed lines l ≡ decks_with cards l
+needs_named lines l cards asked sound plain alike are none =
+    needs_unyanked lines l cards plain alike (none_yank cards l sound (ap (λ cs. are_in_yanks cs l) (sym are) ∙ none))
+
+-- where the directory shows that none of them is a yank card
+pub needs_seen : (lines : List LineView) (l head : LibraryView) (cards asked : List CardRef) → IsSound l → is_plain lines ≡ true → head ≡ part_of [] l
+    → AreAlike cards (cards_named lines) → asked ≡ cards → list_any (is_yank_card head) asked ≡ false → decks_needed lines l ≡ decks_with cards l
+needs_seen lines l head cards asked sound plain is alike are none =
+    needs_unyanked lines l cards plain alike (sym (yanks_same l head cards sound is) ∙ ap (list_any (is_yank_card head)) (sym are) ∙ none)
 
 -- ---- what was loaded
 
@@ -111,9 +126,15 @@ pub all_loaded : (lines : List LineView) (l found : LibraryView) → found ≡ l
     → found ≡ part_of (decks_needed lines l) l
 all_loaded lines l found is needs = is ∙ sym (ap (λ ds. part_of ds l) needs ∙ whole_part l)
 
-pub named_loaded : (lines : List LineView) (l found : LibraryView) (cards asked : List CardRef) → asked ≡ cards
-    → found ≡ part_of (decks_with asked l) l → decks_needed lines l ≡ decks_with cards l → found ≡ part_of (decks_needed lines l) l
-named_loaded lines l found cards asked are is needs = is ∙ ap (λ ds. part_of ds l) (ap (λ cs. decks_with cs l) are ∙ sym needs)
+-- the homes of these cards
+pub homes_loaded : (lines : List LineView) (l found : LibraryView) (cards asked : List CardRef) (ages homes : List ℕ) → found ≡ part_of ages l
+    → ages ≡ homes → homes ≡ decks_with asked l → asked ≡ cards → decks_needed lines l ≡ decks_with cards l → found ≡ part_of (decks_needed lines l) l
+homes_loaded lines l found cards asked ages homes is same are of needs =
+    is ∙ ap (λ ds. part_of ds l) (same ∙ are ∙ ap (λ cs. decks_with cs l) of ∙ sym needs)
+
+pub no_ages : (ages : List ℕ) → length ages ≡ 0 → [] ≡ ages
+no_ages [] none = refl
+no_ages (d ∷ ds) none = absurd (cc)
 
 -- ---- how many decks were read
 
@@ -139,6 +160,16 @@ needed_read lines l found old mid new sound less reads is =
 
 pub still_read : (old mid : ℕ) → mid ≡ old → mid ≤ old
 still_read old mid same = grind (arith, same)
+
+-- the directory is read after calls that read no deck
+pub head_read : (old mid new : ℕ) → mid ≡ old → new ≤ mid → new ≤ old
+head_read old mid new same less = grind (arith, same, less)
+
+pub within : (old new n : ℕ) → new ≤ old → new ≤ old + n
+within old new n less = omega (arith, less)
+
+pub no_more : (old new : ℕ) → new ≤ old + 0 → new ≤ old
+no_more old new less = omega (arith, less)
 
 pub read_no_more : (old mid new n : ℕ) → new ≡ mid → mid ≤ old + n → new ≤ old + n
 read_no_more old mid new n same less = grind (arith, same, less)

@@ -12,7 +12,7 @@ use Rattle.upd_compile.specs.declared.mode.Mode.{Mode}
 use Rattle.upd_compile.specs.File.{compile_file_of}
 use Rattle.upd_compile.specs.Modes.{mode_named}
 use Rattle.upd_laws.proofs.ReadRunLemmas.{empty_made, run_made}
-use Rattle.upd_laws.proofs.SoundOutcomeLemmas.{holds_of, through}
+use Rattle.upd_apply.proofs.BindLemmas.{bind_ok, holds_of}
 use Rattle.upd_laws.proofs.SoundRunLemmas.{empty_sound, run_sound, run_whole, run_within}
 use Rattle.upd_text.specs.Keys.{is_run_number, is_site}
 use Rattle.upd_desk.specs.Arrivals.{ArrivalView, check_arrival, check_key}
@@ -31,9 +31,9 @@ pub record IsAccepted (mode : Mode) (bytes : List ℕ) (l : LibraryView) (done :
 
 pub accepted : (mode : Mode) (bytes : List ℕ) (l : LibraryView) (done : Compiled) → compiled mode bytes l ≡ Ok done → IsAccepted mode bytes l done
 accepted mode bytes l done h =
-    through (reading bytes) _ done (IsAccepted mode bytes l done) h (λ lines e h1.
-    through (applied lines l) _ done (IsAccepted mode bytes l done) h1 (λ reached f h2.
-    through (compile_file_of mode reached.compile l reached.library) _ done (IsAccepted mode bytes l done) h2 (λ file g h3.
+    bind_ok (reading bytes) _ done (IsAccepted mode bytes l done) h (λ lines e h1.
+    bind_ok (applied lines l) _ done (IsAccepted mode bytes l done) h1 (λ reached f h2.
+    bind_ok (compile_file_of mode reached.compile l reached.library) _ done (IsAccepted mode bytes l done) h2 (λ file g h3.
     holds_of {E = Fault} (IsAccepted mode bytes l) (record { reached = reached; file = file }) done h3
     (record { lines = lines; read = e; applied = f; file = g }))))
 
@@ -90,10 +90,10 @@ named None mode h = absurd (cc)
 
 pub passed : (a : ArrivalView) (mode : Mode) → check_arrival a ≡ Ok mode → HasPassed a mode
 passed a mode h =
-    through (check_key a.site a.number) _ mode (HasPassed a mode) h (λ number e h1.
-    through (at_line 0 (refuse_if (not (is_site a.site)) fault.BadSite)) _ number (HasPassed a mode) e (λ site f e1.
-    through (at_line 0 (need fault.BadMode (mode_named a.mode))) _ mode (HasPassed a mode) h1 (λ word g h2.
-    through (at_line 0 (refuse_if _ fault.RunLong)) _ mode (HasPassed a mode) h2 (λ long k h3.
+    bind_ok (check_key a.site a.number) _ mode (HasPassed a mode) h (λ number e h1.
+    bind_ok (at_line 0 (refuse_if (not (is_site a.site)) fault.BadSite)) _ number (HasPassed a mode) e (λ site f e1.
+    bind_ok (at_line 0 (need fault.BadMode (mode_named a.mode))) _ mode (HasPassed a mode) h1 (λ word g h2.
+    bind_ok (at_line 0 (refuse_if _ fault.RunLong)) _ mode (HasPassed a mode) h2 (λ long k h3.
     holds_of {E = Fault} (HasPassed a) word mode h3 (record {
       site = unrefused (is_site a.site) fault.BadSite site f;
       number = unrefused (is_run_number a.number) fault.BadNumber number e1;

@@ -12,6 +12,7 @@ use Rattle.upd_text.specs.Outcome.{◌>>=◌, FailsAt, FailsOf, at_line, need}
 use Rattle.upd_text.specs.declared.limits.TheConstants.{MAX_COMPILE_LINES, MAX_CALLS, MAX_DEPTH}
 use Rattle.upd_core.specs.Actives.{ActivesView}
 use Rattle.upd_core.specs.Library.{CardView, LibraryView, card_in, cards_of, place_of}
+use Rattle.upd_core.specs.Parts.{part_of}
 use Rattle.upd_core.specs.Status.{live_targets}
 use Rattle.upd_core.specs.declared.library.Place.{Place}
 use Rattle.upd_compile.specs.Chosen.{chosen}
@@ -26,6 +27,9 @@ use Rattle.upd_desk.specs.Journal.{Journal, library_after}
 use Rattle.upd_desk.specs.Made.{IsMade}
 use Rattle.upd_desk.specs.Holding.{HoldsIn, IsOwed, Tells, is_lost}
 use Rattle.upd_desk.specs.Outcomes.{IsFileFault}
+use Rattle.upd_desk.specs.Queries.{IsMiss, decks_asked, listing}
+use Rattle.upd_desk.specs.declared.library_queries.Query.{Query}
+use Rattle.upd_desk.specs.declared.library_queries.Query.TheVariants.{Deck, Card, Idents, Yanks}
 use Rattle.upd_desk.proofs.MadeLemmas.{library_made}
 use Rattle.upd_desk.proofs.RefusedLemmas.{fails_by}
 
@@ -140,7 +144,7 @@ faults_by {A} {Met} f defined met fails = by (fails_owed f defined fails)
     by (inr is) = inr (met is)
 
 -- the listing of a deck is refused where there is no deck with the name
-pub deck_met : (name : List ℕ) (l : LibraryView) (f : Fault) → deck_listing name l ≡ Err f → f ≡ fault_at DeckUnknown 0
+deck_met : (name : List ℕ) (l : LibraryView) (f : Fault) → deck_listing name l ≡ Err f → f ≡ fault_at DeckUnknown 0
 deck_met name l f is = by (listed_deck name l) is
   where
     by : (o : Option ℕ)
@@ -151,7 +155,7 @@ deck_met name l f is = by (listed_deck name l) is
     by (Some age) is = absurd (cc)
 
 -- the listing of a card is refused where there is no such card
-pub card_met : (card : CardRef) (l : LibraryView) (f : Fault) → card_listing card l ≡ Err f → f ≡ fault_at CardUnknown 0
+card_met : (card : CardRef) (l : LibraryView) (f : Fault) → card_listing card l ≡ Err f → f ≡ fault_at CardUnknown 0
 card_met card l f is = by (place_of card l) is
   where
     lines : Place → CardView → Result (List ℕ) Fault
@@ -166,3 +170,23 @@ card_met card l f is = by (place_of card l) is
         → f ≡ fault_at CardUnknown 0
     by None is = sym (cc is)
     by (Some place) is = by_card place (card_in place l) is
+
+-- a listing is refused where what it is about isn't there, and that is no failure of a store
+pub listing_met : (query : Query) (l : LibraryView) (f : Fault) → listing query l ≡ Err f → IsMiss query f
+listing_met (Deck name) l f is = deck_met name l f is
+listing_met (Card card) l f is = card_met card l f is
+listing_met Idents l f is = absurd (cc)
+listing_met Yanks l f is = absurd (cc)
+
+pub listing_keeps : (query : Query) (l : LibraryView) (f : Fault) → listing query l ≡ Err f → is_lost f.kind ≡ false
+listing_keeps (Deck name) l f is = ap (λ g. is_lost g.kind) (deck_met name l f is)
+listing_keeps (Card card) l f is = ap (λ g. is_lost g.kind) (card_met card l f is)
+listing_keeps Idents l f is = absurd (cc)
+listing_keeps Yanks l f is = absurd (cc)
+
+-- a listing that needs no deck is the same of the directory and `YANK$$$`
+pub head_listed : (query : Query) (l head : LibraryView) → decks_asked query ≡ 0 → head ≡ part_of [] l → listing query head ≡ listing query l
+head_listed (Deck name) l head none is = absurd (cc)
+head_listed (Card card) l head none is = absurd (cc)
+head_listed Idents l head none is = ap (λ (m : LibraryView). listing Idents m) is
+head_listed Yanks l head none is = ap (λ (m : LibraryView). listing Yanks m) is

@@ -71,17 +71,9 @@ fails_is fault defined other fails = by (fails_by fault defined fails)
     by (inl lost) = absurd (other lost.0)
     by (inr met) = met
 
--- a refusal that can't be kept is out of memory
-pub refused_memory : {A : Type 0} (f e : Fault) (defined : Result A Fault) → FailsAt f defined
-    → (e ≡ fault_at kinds.NoMemory 0) ⊎ ((e ≡ f) × (f.kind ≡ kinds.NoMemory)) → (e.kind ≡ kinds.NoMemory) × (e.at ≡ 0)
-refused_memory f e defined fails (inl is) = (ap (λ g. g.kind) is, ap (λ g. g.at) is)
-refused_memory f e defined fails (inr (same, kind)) =
-    let at : f.at ≡ 0 = subst (λ k. FailsOf k f defined) kind fails in
-    (ap (λ g. g.kind) same ∙ kind, ap (λ g. g.at) same ∙ at)
-
-pub refused_lost : {A : Type 0} (f e : Fault) (defined : Result A Fault) → FailsAt f defined
-    → (e ≡ fault_at kinds.NoMemory 0) ⊎ ((e ≡ f) × (f.kind ≡ kinds.NoMemory)) → IsLost e
-refused_lost f e defined fails is = let lost = refused_memory f e defined fails is in OfMemory e lost.0 lost.1
+-- out of memory is at no line
+pub memory_at_zero : {A : Type 0} (f : Fault) (defined : Result A Fault) → FailsAt f defined → f.kind ≡ kinds.NoMemory → f.at ≡ 0
+memory_at_zero f defined fails is = subst (λ k. FailsOf k f defined) is fails
 
 -- out of memory says nothing about what is defined
 pub fails_memory : {X A : Type 0} (result : Result X Fault) (defined : Result A Fault)

@@ -15,7 +15,7 @@ use Rattle.upd_compile.specs.Modes.{mode_named}
 use Rattle.upd_laws.specs.ReadRuns.{HasLineTexts}
 use Rattle.upd_laws.proofs.CompileLineLemmas.{file_plain, name_of_plain}
 use Rattle.upd_laws.proofs.SoundListLemmas.{and_right, all_weaker}
-use Rattle.upd_reply.specs.Texts.{AreShown, accepted_text, is_shown}
+use Rattle.upd_desk.specs.ReplyTexts.{AreShown, accepted_text, is_shown}
 use Rattle.upd_text.specs.Keys.{is_site, is_site_byte}
 use Rattle.upd_desk.specs.Arrivals.{ArrivalView, check_arrival}
 use Rattle.upd_desk.specs.Made.{IsMade}

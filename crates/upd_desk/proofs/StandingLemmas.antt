@@ -1,39 +1,21 @@
--- A card that is in a deck stands in no other, and is no yank card.
+-- A card that is in a deck is in no other.
 use Rattle.std.proofs.Common.{◌≡◌, ℕ, suc, ◌<◌, ◌≤◌, Bool, true, false, not, ◌&&◌, ◌||◌, List, []}
 use Rattle.std.proofs.Common.{◌∷◌, length, map, Option, Some, None, refl, sym, ap, ◌∙◌, subst, arith}
 use Rattle.std.proofs.lemmas.Bool.Decides.{nat_tests}
 use Rattle.std.specs.Prelude.{◌==◌, slice_get}
-use Rattle.std.specs.List.{filter, list_all, list_any}
+use Rattle.std.specs.List.{filter}
 use Rattle.upd_text.specs.declared.card_ref.CardRef.{CardRef}
 use Rattle.upd_core.specs.declared.library.Place.{Place}
 use Rattle.upd_core.specs.Edits.{is_among}
 use Rattle.upd_core.specs.Library.{CardView, DeckView, LibraryView, all_decks, place_of, ref_of}
 use Rattle.upd_core.specs.Sound.{IsSound}
-use Rattle.upd_core.proofs.ApartLemmas.{all_at, all_mapped, at_contained}
+use Rattle.upd_core.proofs.ApartLemmas.{at_contained}
 use Rattle.upd_core.proofs.FoundLemmas.{place_at}
 use Rattle.upd_records.specs.Rows.{same_ref}
 use Rattle.upd_records.proofs.EqualLemmas.{same_ref_is}
 use Rattle.upd_row_store.specs.Asked.{decks_with, holds_one, is_asked}
-use Rattle.upd_partial.specs.Needed.{is_yank_card}
 use Rattle.upd_partial.proofs.CountLemmas.{decks_few}
-use Rattle.upd_desk.specs.Needed.{stands_in_deck}
 use Rattle.upd_yank.proofs.FindLemmas.{any_at}
-
--- some are kept by a test where one passes it
-some_kept : (test : DeckView → Bool) (ds : List DeckView) → not (length (map (λ d. d.ident) (filter test ds)) == 0) ≡ list_any test ds
-some_kept test [] = refl
-some_kept test (d ∷ ds) = go (test d) refl (some_kept test ds)
-  where
-    go : (b : Bool) → test d ≡ b → not (length (map (λ d. d.ident) (filter test ds)) == 0) ≡ list_any test ds
-        → not (length (map (λ d. d.ident) (filter test (d ∷ ds))) == 0) ≡ list_any test (d ∷ ds)
-    go true pass later = rw pass (grind (arith, nat_tests))
-    go false fail later = rw fail later
-
--- whether decks were told is whether the card stands in one
-pub told_standing : (card : CardRef) (l : LibraryView) (decks : List ℕ) (none : Bool) → decks ≡ decks_with (card ∷ []) l → none ≡ (length decks == 0)
-    → not none ≡ stands_in_deck l card
-told_standing card l decks none is empty =
-    ap not empty ∙ ap (λ ds. not (length ds == 0)) is ∙ some_kept (holds_one (card ∷ []) l.idents) l.decks
 
 -- a deck that holds the card is where it is found
 standing_place : (card : CardRef) (l : LibraryView) (k : ℕ) (d : DeckView) → IsSound l → slice_get l.decks k ≡ Some d
@@ -52,32 +34,6 @@ standing_place card l k d sound stands holds = of_card (any_at (λ c. is_asked (
     of_card : (i : ℕ) × (c : CardView) × (slice_get d.cards i ≡ Some c) × (is_asked (card ∷ []) (ref_of l.idents c) ≡ true)
         → (i : ℕ) × (place_of card l ≡ Some (record { deck = d.ident; index = i }))
     of_card (i, c, at, asked) = named i c at (same_ref card (ref_of l.idents c)) refl asked
-
-standing_no_yank : (card : CardRef) (l : LibraryView) → IsSound l → stands_in_deck l card ≡ true → is_yank_card l card ≡ false
-standing_no_yank card l sound some = in_deck (any_at (holds_one (card ∷ []) l.idents) l.decks some)
-  where
-    placed : (k : ℕ) (d : DeckView) → slice_get l.decks k ≡ Some d
-        → (i : ℕ) × (place_of card l ≡ Some (record { deck = d.ident; index = i })) → is_yank_card l card ≡ false
-    placed k d stands (i, place) =
-        let later : 0 < d.ident =
-        all_at (λ (d : DeckView). 0 < d.ident) l.decks k d (all_mapped (λ m. 0 < m) (λ (d : DeckView). d.ident) l.decks sound.deck_ages.0) stands in
-        rw place (grind (arith, nat_tests))
-
-    in_deck : (k : ℕ) × (d : DeckView) × (slice_get l.decks k ≡ Some d) × (holds_one (card ∷ []) l.idents d ≡ true) → is_yank_card l card ≡ false
-    in_deck (k, d, stands, holds) = placed k d stands (standing_place card l k d sound stands holds)
-
--- cards that stand in decks are no yank cards
-pub standing_no_yanks : (cards : List CardRef) (l : LibraryView) → IsSound l → list_all (stands_in_deck l) cards ≡ true
-    → list_any (is_yank_card l) cards ≡ false
-standing_no_yanks [] l sound all = refl
-standing_no_yanks (card ∷ cards) l sound all = go (stands_in_deck l card) refl all (standing_no_yanks cards l sound)
-  where
-    go : (b : Bool) → stands_in_deck l card ≡ b → (b && list_all (stands_in_deck l) cards) ≡ true
-        → (list_all (stands_in_deck l) cards ≡ true → list_any (is_yank_card l) cards ≡ false) → list_any (is_yank_card l) (card ∷ cards) ≡ false
-    go true stands rest later = rw (standing_no_yank card l sound stands) (later rest)
-    go false stands rest later = absurd (cc)
-
--- ---- one deck holds a card, at most
 
 pub among_own : (z : ℕ) → is_among (z ∷ []) z ≡ true
 among_own z = let same : (z == z) ≡ true = grind (arith, nat_tests) in rw same refl

@@ -1,7 +1,9 @@
 -- A run as it was applied to what was loaded of a library, and as it is answered.
-use Rattle.std.specs.Prelude.{◌≡◌, ℕ, ◌≤◌, Bool, true, false, List, [], length, map, Option, Some, None, Ok}
+use Rattle.std.specs.Prelude.{◌≡◌, ℕ, ◌≤◌, Bool, true, false, List, [], length, map, Option, Some, None, Ok, Err}
 use Rattle.std.specs.List.{AllByRecursion}
 use Rattle.upd_text.specs.declared.card_ref.CardRef.{CardRef}
+use Rattle.upd_text.specs.declared.fault.Fault.{Fault}
+use Rattle.upd_text.specs.declared.fault.FaultKind.TheVariants.{NoMemory}
 use Rattle.upd_core.specs.Actives.{ActivesView, actives_of}
 use Rattle.upd_core.specs.Serials.{Serial}
 use Rattle.upd_core.specs.Counted.{counted_cards}
@@ -20,9 +22,9 @@ use Rattle.upd_yank.specs.Affected.{affected, altered}
 use Rattle.upd_yank.specs.Enough.{IsEnough}
 use Rattle.upd_yank.specs.Renewed.{renewed}
 use Rattle.upd_yank.specs.Right.{CacheView, IsRight, IsRunBetween}
-use Rattle.upd_desk.specs.Arrivals.{ArrivalView}
+use Rattle.upd_desk.specs.Arrivals.{ArrivalView, check_arrival}
 use Rattle.upd_desk.specs.Made.{LeadTo, looked_at}
-use Rattle.upd_desk.specs.Outcomes.{Compiled, compiled, outcome}
+use Rattle.upd_desk.specs.Outcomes.{Compiled, compiled, outcome, outcome_by}
 use Rattle.upd_desk.specs.declared.outcome.AppliedRun.{AppliedRun}
 use Rattle.upd_desk.specs.declared.outcome.RunOutcome.{RunOutcome}
 
@@ -67,6 +69,13 @@ pub record IsSeen (done : Compiled) (run : AppliedRun) (file : FileView) : Type 
   pub directory : run.library.idents ≡ done.reached.library.idents
   pub idents : run.applied.idents.items ≡ done.reached.idents
   pub written : file ≡ done.file
+
+-- What is known of the outcome of a refused run: it has the reply with its fault, and changes nothing. Out of memory is no refusal.
+pub record IsRefusal (a : ArrivalView) (fault : Fault) (o : RunOutcome) : Type 0 where
+  pub reply : (mode : Mode) (l : LibraryView) → check_arrival a ≡ Ok mode → o.reply ≡ (outcome_by a l (Err fault)).reply
+  pub changes : o.changes.items ≡ []
+  pub work : o.work ≡ 0
+  pub kind : fault.kind ≡ NoMemory → ⊥
 
 -- the active cards of a library, or none where a mode writes no line of them
 abbrev pub AreActivesFor : Mode → List ℕ → LibraryView → Option ActivesView → Type 0

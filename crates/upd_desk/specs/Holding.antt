@@ -1,6 +1,6 @@
 -- When a store holds what a desk owes after a journal, and what a crash may have left of it.
 use Rattle.std.specs.Prelude.{◌≡◌, ℕ, ◌+◌, ◌≤◌, Bool, true, false, ◌⊎◌, if◌then◌else◌, List, [], ◌∷◌, ◌++◌, length, None, IsSome}
-use Rattle.std.specs.Prelude.{Result, Ok, Err, IfErr, IfOk, IsErr, IsErrAnd, IsOk, OnOk}
+use Rattle.std.specs.Prelude.{Result, Ok, Err, IfErr, IfOk, IsErr, IsErrAnd, IsOk, OnErr, OnOk}
 use Rattle.std.specs.List.{AllByRecursion, AllZip, Any}
 use Rattle.upd_text.specs.declared.fault.Fault.{Fault}
 use Rattle.upd_text.specs.declared.fault.FaultKind.{FaultKind}
@@ -13,7 +13,7 @@ use Rattle.upd_records.specs.Rows.{Rows, Shows, ShowsStates}
 use Rattle.upd_compile.specs.declared.mode.Mode.{Mode}
 use Rattle.upd_yank.specs.Affected.{altered}
 use Rattle.upd_row_store.specs.declared.meaning.Meaning.{Ghosts}
-use Rattle.upd_row_store.specs.Keeping.{IsLater, IsLost, IsShown, OpensOk, failures_after}
+use Rattle.upd_row_store.specs.Keeping.{CountsFailure, IsLater, IsLost, IsShown, Keeps, OpensOk, failures_after}
 use Rattle.upd_row_store.specs.Tables.{mark_at, run_at}
 use Rattle.upd_desk.specs.Arrivals.{ArrivalView, check_arrival, check_key}
 use Rattle.upd_desk.specs.Journal.{Event, Came, Settled, Journal, answer, kept, mark, run_of, library_after}
@@ -185,6 +185,19 @@ module _ {S : Type 0} (meaning : Ghosts S) where
   ReadsAtMost result old new most = is_honest new → OnOk result ((l : LibraryView) → IsMade l → (rows : Rows)
       → IsShown meaning rows old → Shows rows l → decks_read_of new ≤ decks_read_of old + most l)
 
+  -- What a call that only reads leaves: what the store kept. A fault is out of memory or a failure of the store, which is counted.
+  pub record OnlyReads {A : Type 0} (result : Result A Fault) (old new : S) : Type 0 where
+    pub same : Keeps meaning old new
+    pub lost : IfErr result IsLost
+    pub failed : CountsFailure meaning result old new
+
+  -- What a query leaves: what the store kept, open after an answer. A failure of the store is counted, and no card is looked at.
+  pub record LeavesQuery {A : Type 0} (result : Result A Fault) (old new : S) (work_before work : ℕ) : Type 0 where
+    pub opens : OpensOk meaning result new
+    pub same : Keeps meaning old new
+    pub failed : CountsFailure meaning result old new
+    pub idle : work ≡ work_before
+
   -- ---- what an arrival costs
 
   -- an arrival that gets a reply looks at this number of cards
@@ -233,6 +246,16 @@ module _ {S : Type 0} (meaning : Ghosts S) where
     -- a crash leaves what was answered, with or without what is in hand
     pub leaves : is_honest new → (journal : Journal) (in_hand : List Event) → Guards journal in_hand old → (i : Image) → may_leave new i
         → IsLeft shows (after journal a result) (in_hand_after a in_hand result) i
+
+  -- All that is known of a desk's answer to an arrival, with the number of cards that it has looked at by then.
+  pub record AnswersArrival (a : ArrivalView) (result : Result ReplyView Fault) (old new : S) (looked_before looked : ℕ) : Type 0 where
+    pub arrives : Arrives a result old new
+    pub work : LooksAt a result (λ _. looked) old new
+    pub reads : ReadsNeeded a result old new
+    pub idle : OnErr result (looked ≡ looked_before)
+    pub unadmitted : IsUnadmitted (check_arrival a) result old new
+    pub faults : IfErr result (IsArrivalFault a)
+    pub failed : CountsFailure meaning result old new
 
   -- a settlement that has to change nothing: it is answered by a fault, or the site has settled so far already
   abbrev pub IsIdleSettlement : List ℕ → ℕ → Result ℕ Fault → S → Type 0

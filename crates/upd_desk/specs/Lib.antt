@@ -1,3 +1,5 @@
+pub mod ReplyTexts
+pub mod ReplyValues
 pub mod Arrivals
 pub mod Outcomes
 pub mod Journal
@@ -5,4 +7,5 @@ pub mod Holding
 pub mod Answers
 pub mod Made
 pub mod Needed
+pub mod Queries
 pub mod Compiling

@@ -1,14 +1,11 @@
--- Which decks an arrival needs, and whether a card stands in one.
-use Rattle.std.specs.Prelude.{ℕ, Bool, List, [], ◌∷◌, Option, Some, None, Result, Ok, Err}
-use Rattle.std.specs.List.{list_any}
-use Rattle.upd_text.specs.declared.card_ref.CardRef.{CardRef}
+-- Which decks an arrival needs.
+use Rattle.std.specs.Prelude.{ℕ, List, [], Option, Some, None, Result, Ok, Err}
 use Rattle.upd_text.specs.declared.fault.Fault.{Fault}
 use Rattle.upd_core.specs.Serials.{Serial}
 use Rattle.upd_core.specs.Library.{LibraryView}
 use Rattle.upd_records.specs.Rows.{RunView}
 use Rattle.upd_deck.specs.Items.{LineView}
 use Rattle.upd_deck.specs.Reading.{reading}
-use Rattle.upd_row_store.specs.Asked.{holds_one}
 use Rattle.upd_partial.specs.Needed.{decks_needed}
 use Rattle.upd_desk.specs.Arrivals.{ArrivalView}
 use Rattle.upd_desk.specs.Journal.{Journal, kept, library_after}
@@ -28,7 +25,3 @@ needed_by journal a = by (kept journal a.site a.number)
     by : Option RunView → List Serial
     by (Some run) = []
     by None = needed a.bytes (library_after journal)
-
--- whether a card is in a deck other than `YANK$$$`
-abbrev pub stands_in_deck : LibraryView → CardRef → Bool
-stands_in_deck l card = list_any (holds_one (card ∷ []) l.idents) l.decks

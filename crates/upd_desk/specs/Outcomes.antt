@@ -9,7 +9,7 @@ use Rattle.upd_deck.specs.Reading.{reading}
 use Rattle.upd_apply.specs.Applying.{Reached, applied}
 use Rattle.upd_compile.specs.File.{FileView, compile_file_of}
 use Rattle.upd_compile.specs.declared.mode.Mode.{Mode}
-use Rattle.upd_reply.specs.Texts.{accepted_text, refused_text}
+use Rattle.upd_desk.specs.ReplyTexts.{accepted_text, refused_text}
 use Rattle.upd_desk.specs.Arrivals.{ArrivalView, check_arrival}
 
 -- What a run reached, and its compile file.

@@ -11,7 +11,7 @@ ghost use Rattle.upd_desk.specs.Made.{looked_at};
 ghost use Rattle.upd_desk.specs.Needed.{needed};
 ghost use Rattle.upd_desk.specs.Journal.{reply_to, run_of};
 ghost use Rattle.upd_desk.specs.Outcomes.{compiled, outcome};
-ghost use Rattle.upd_row_store.specs.Keeping.{CountsFailure, IsLost};
+ghost use Rattle.upd_row_store.specs.Keeping.{CountsFailure, IsLost, OpensOk};
 ghost use Rattle.upd_text.specs.Faults.{fault_at};
 ghost use Rattle.upd_text.specs.declared.fault.FaultKind.TheVariants.{NoMemory};
 ghost use Rattle.upd_yank.specs.Affected.{altered};
@@ -76,7 +76,7 @@ fn keep_new<S: RowStore>(
 ) -> Result<Answered, Fault>
     requires passed { check_arrival arrival.now ≡ Ok mode }
     ensures tries { TriesRun S.Meaning mode arrival.now store.old store.new }
-    ensures open { S.is_honest store.new → OnOk result (S.is_open store.new) }
+    ensures opens { OpensOk S.Meaning result store.new }
     ensures becomes { S.is_honest store.new
         → OnOk result (Becomes S.shows mode arrival.now (S.image store.old) (S.image store.new)) }
     ensures reply { FindsMade S.Meaning result store.old store.new

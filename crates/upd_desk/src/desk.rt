@@ -8,21 +8,20 @@ ghost use Rattle.upd_compile.specs.Listings.{card_listing, deck_listing, ident_l
 ghost use Rattle.upd_compile.specs.declared.mode.Mode.TheVariants.{Full};
 ghost use Rattle.upd_desk.specs.Holding.{Arrives, EachHeld, EndsInReply, LooksAt, ReadsNeeded};
 ghost use Rattle.upd_desk.specs.Holding.{AreArrivalFaults, IsArrivalFault, IsSettlementFault, IsUnadmitted};
-ghost use Rattle.upd_desk.specs.Holding.{ReadsNeededByAll, RunAll, Settles, Tells, failures_after_all, work_after_all};
+ghost use Rattle.upd_desk.specs.Holding.{AnswersArrival, LeavesQuery, ReadsNeededByAll, RunAll, Settles, Tells, failures_after_all, work_after_all};
+ghost use Rattle.upd_desk.specs.Queries.{IsMiss, decks_asked, listing};
 ghost use Rattle.upd_desk.specs.Outcomes.{IsFileFault};
-ghost use Rattle.upd_row_store.specs.Keeping.{CountsFailure, IsLost, Keeps, OpensOk, reads_after};
+ghost use Rattle.upd_row_store.specs.Keeping.{CountsFailure, IsLost, reads_after};
 ghost use Rattle.upd_text.specs.Faults.{fault_at};
 ghost use Rattle.upd_text.specs.declared.fault.FaultKind.TheVariants.{CardUnknown, DeckUnknown, NoMemory};
 
 use crate::arrival::Arrival;
 use crate::arrive::arrive_at;
-use crate::loading::{load_deck_named, load_deck_with};
+use crate::library_queries::{Query, list, load_listed};
 use crate::reply::Reply;
-use crate::settle::settle_at;
+use crate::settlement::settle_at;
 use std::alloc::Global;
-use upd_compile::{
-    CompileFile, Mode, compile_active, list_card, list_deck, list_idents, list_yanks,
-};
+use upd_compile::{CompileFile, Mode, compile_active};
 use upd_core::{CardRef, Library, Name};
 use upd_row_store::RowStore;
 use upd_text::Fault;
@@ -65,6 +64,12 @@ impl<S: RowStore> Desk<S> {
     /// where the number is at or below the site's mark; RunChanged where the key has a stored run with another mode or
     /// other bytes; NoMemory or Store, after which the run can be sent again. After Store the run may be in the library
     /// once it is opened again: then the run that is sent again gets its reply.
+    ///
+    /// ```text
+    /// LYON 2 quick *IDENT Y    a reply that has "idents":["Y"] and "state":"accepted"
+    /// LYON 2 quick *IDENT Y    a repeat: the same bytes, and nothing changes
+    /// LYON 2 full *IDENT Y     RunChanged at 0
+    /// ```
     pub fn arrive(
         &mut self,
         alloc: Global,
@@ -95,13 +100,7 @@ impl<S: RowStore> Desk<S> {
     }
 
     fn arrive_one(&mut self, alloc: Global, arrival: &Arrival<'_>) -> Result<Reply, Fault>
-        ensures arrives { Arrives S.Meaning arrival.now result self.old.store self.new.store }
-        ensures work { LooksAt S.Meaning arrival.now result (λ _. self.new.work) self.old.store self.new.store }
-        ensures reads { ReadsNeeded S.Meaning arrival.now result self.old.store self.new.store }
-        ensures idle { OnErr result (self.new.work ≡ self.old.work) }
-        ensures unadmitted { IsUnadmitted (check_arrival arrival.now) result self.old.store self.new.store }
-        ensures faults { IfErr result (IsArrivalFault arrival.now) }
-        ensures failed { CountsFailure S.Meaning result self.old.store self.new.store }
+        ensures { AnswersArrival S.Meaning arrival.now result self.old.store self.new.store self.old.work self.new.work }
     {
         match arrive_at(&mut self.store, alloc, arrival) {
             Ok(answered) => {
@@ -168,12 +167,9 @@ impl<S: RowStore> Desk<S> {
     pub fn full_compile(&mut self, alloc: Global) -> Result<CompileFile, Fault>
         ensures text { Tells S.Meaning (λ l. compile_file_of Full [] l l)
             (result_map_both (λ file. file) (λ fault. fault) result) self.old.store self.new.store }
-        ensures opens { OpensOk S.Meaning result self.new.store }
-        ensures same { Keeps S.Meaning self.old.store self.new.store }
         ensures unread { S.decks_read_of self.new.store ≡ S.decks_read_of self.old.store }
-        ensures idle { self.new.work ≡ self.old.work }
         ensures faults { IfErr result (λ fault. IsLost fault ⊎ IsFileFault fault) }
-        ensures failed { CountsFailure S.Meaning result self.old.store self.new.store }
+        ensures leaves { LeavesQuery S.Meaning result self.old.store self.new.store self.old.work self.new.work }
     {
         let actives = self.store.load_active(alloc)?;
         match compile_active(alloc, &actives, &actives, Mode::Full, &[]) {
@@ -185,12 +181,9 @@ impl<S: RowStore> Desk<S> {
     /// The whole library, as the runs have made it. After NoMemory or Store, at 0, it can be asked again.
     pub fn library(&mut self, alloc: Global) -> Result<Library, Fault>
         ensures library { Tells S.Meaning (λ l. Ok l) result self.old.store self.new.store }
-        ensures opens { OpensOk S.Meaning result self.new.store }
-        ensures same { Keeps S.Meaning self.old.store self.new.store }
-        ensures idle { self.new.work ≡ self.old.work }
         ensures reads { S.decks_read_of self.new.store ≡ reads_after result (S.decks_read_of self.old.store) }
         ensures lost { IfErr result IsLost }
-        ensures failed { CountsFailure S.Meaning result self.old.store self.new.store }
+        ensures leaves { LeavesQuery S.Meaning result self.old.store self.new.store self.old.work self.new.work }
     {
         match self.store.load(alloc) {
             Ok(library) => Ok(library),
@@ -203,19 +196,12 @@ impl<S: RowStore> Desk<S> {
     pub fn deck_list(&mut self, alloc: Global, name: &Name) -> Result<Vec<u8>, Fault>
         ensures text { Tells S.Meaning (deck_listing name.now)
             (result_map_both (λ text. text.items) (λ fault. fault) result) self.old.store self.new.store }
-        ensures opens { OpensOk S.Meaning result self.new.store }
-        ensures same { Keeps S.Meaning self.old.store self.new.store }
         ensures reads { EachHeld S.Meaning self.old.store self.new.store
             (λ journal. S.decks_read_of self.new.store ≤ S.decks_read_of self.old.store + 1) }
-        ensures idle { self.new.work ≡ self.old.work }
         ensures faults { IfErr result (λ fault. IsLost fault ⊎ (fault ≡ fault_at DeckUnknown 0)) }
-        ensures failed { CountsFailure S.Meaning result self.old.store self.new.store }
+        ensures leaves { LeavesQuery S.Meaning result self.old.store self.new.store self.old.work self.new.work }
     {
-        let library = load_deck_named(&mut self.store, alloc, name)?;
-        match list_deck(alloc, &library, name) {
-            Ok(text) => Ok(text),
-            Err(fault) => Err(fault),
-        }
+        self.ask(alloc, &Query::Deck(*name))
     }
 
     /// A card with its history. CardUnknown, at 0, where there is no such card; after NoMemory or Store, at 0, it can
@@ -223,54 +209,49 @@ impl<S: RowStore> Desk<S> {
     pub fn card_list(&mut self, alloc: Global, card: CardRef) -> Result<Vec<u8>, Fault>
         ensures text { Tells S.Meaning (card_listing card)
             (result_map_both (λ text. text.items) (λ fault. fault) result) self.old.store self.new.store }
-        ensures opens { OpensOk S.Meaning result self.new.store }
-        ensures same { Keeps S.Meaning self.old.store self.new.store }
         ensures reads { EachHeld S.Meaning self.old.store self.new.store
             (λ journal. S.decks_read_of self.new.store ≤ S.decks_read_of self.old.store + 1) }
-        ensures idle { self.new.work ≡ self.old.work }
         ensures faults { IfErr result (λ fault. IsLost fault ⊎ (fault ≡ fault_at CardUnknown 0)) }
-        ensures failed { CountsFailure S.Meaning result self.old.store self.new.store }
+        ensures leaves { LeavesQuery S.Meaning result self.old.store self.new.store self.old.work self.new.work }
     {
-        let library = load_deck_with(&mut self.store, alloc, &card)?;
-        match list_card(alloc, &library, card) {
-            Ok(text) => Ok(text),
-            Err(fault) => Err(fault),
-        }
+        self.ask(alloc, &Query::Card(card))
     }
 
     /// The directory. After NoMemory or Store, at 0, it can be asked again.
     pub fn ident_list(&mut self, alloc: Global) -> Result<Vec<u8>, Fault>
         ensures text { Tells S.Meaning (λ l. Ok (ident_listing l))
             (result_map_both (λ text. text.items) (λ fault. fault) result) self.old.store self.new.store }
-        ensures opens { OpensOk S.Meaning result self.new.store }
-        ensures same { Keeps S.Meaning self.old.store self.new.store }
         ensures reads { EachHeld S.Meaning self.old.store self.new.store
             (λ journal. S.decks_read_of self.new.store ≤ S.decks_read_of self.old.store) }
-        ensures idle { self.new.work ≡ self.old.work }
         ensures lost { IfErr result IsLost }
-        ensures failed { CountsFailure S.Meaning result self.old.store self.new.store }
+        ensures leaves { LeavesQuery S.Meaning result self.old.store self.new.store self.old.work self.new.work }
     {
-        let head = self.store.load_decks(alloc, &[])?;
-        match list_idents(alloc, &head) {
-            Ok(text) => Ok(text),
-            Err(fault) => Err(fault),
-        }
+        self.ask(alloc, &Query::Idents)
     }
 
     /// The yank cards with their targets. After NoMemory or Store, at 0, they can be asked again.
     pub fn yank_list(&mut self, alloc: Global) -> Result<Vec<u8>, Fault>
         ensures text { Tells S.Meaning (λ l. Ok (yank_listing l))
             (result_map_both (λ text. text.items) (λ fault. fault) result) self.old.store self.new.store }
-        ensures opens { OpensOk S.Meaning result self.new.store }
-        ensures same { Keeps S.Meaning self.old.store self.new.store }
         ensures reads { EachHeld S.Meaning self.old.store self.new.store
             (λ journal. S.decks_read_of self.new.store ≤ S.decks_read_of self.old.store) }
-        ensures idle { self.new.work ≡ self.old.work }
         ensures lost { IfErr result IsLost }
-        ensures failed { CountsFailure S.Meaning result self.old.store self.new.store }
+        ensures leaves { LeavesQuery S.Meaning result self.old.store self.new.store self.old.work self.new.work }
     {
-        let head = self.store.load_decks(alloc, &[])?;
-        match list_yanks(alloc, &head) {
+        self.ask(alloc, &Query::Yanks)
+    }
+
+    /// Loads what a listing is made of, and lists it.
+    fn ask(&mut self, alloc: Global, query: &Query) -> Result<Vec<u8>, Fault>
+        ensures text { Tells S.Meaning (listing query.now)
+            (result_map_both (λ text. text.items) (λ fault. fault) result) self.old.store self.new.store }
+        ensures reads { EachHeld S.Meaning self.old.store self.new.store
+            (λ journal. S.decks_read_of self.new.store ≤ S.decks_read_of self.old.store + decks_asked query.now) }
+        ensures faults { IfErr result (λ fault. IsLost fault ⊎ IsMiss query.now fault) }
+        ensures leaves { LeavesQuery S.Meaning result self.old.store self.new.store self.old.work self.new.work }
+    {
+        let library = load_listed(&mut self.store, alloc, query)?;
+        match list(alloc, &library, query) {
             Ok(text) => Ok(text),
             Err(fault) => Err(fault),
         }

@@ -10,14 +10,20 @@
 pub mod arrival;
 mod arrive;
 pub mod desk;
-pub mod laws;
-mod loading;
+pub mod desk_laws;
+mod library_queries;
+mod mark;
 mod outcome;
 pub mod reply;
-mod settle;
+mod reply_texts;
+mod reply_values;
+mod run_loading;
+mod settlement;
 pub mod trying;
 
 pub use arrival::Arrival;
 pub use desk::Desk;
+pub use mark::{SETTLED_ROOM, settled_parts};
 pub use reply::{Reply, fault_answer};
+pub use reply_texts::fault_text;
 pub use trying::reply_on;

@@ -3,8 +3,9 @@
 ghost use Rattle.std.specs.Prelude.{◌≡◌, Err, IfErr, IfOk, false};
 ghost use Rattle.upd_desk.specs.Answers.{IsUntold};
 ghost use Rattle.upd_desk.specs.Holding.{is_lost};
-ghost use Rattle.upd_reply.specs.Texts.{fault_text};
+ghost use Rattle.upd_desk.specs.ReplyTexts.{fault_text};
 
+use crate::reply_texts::fault_text;
 use std::alloc::Global;
 use std::marker::Model;
 use upd_text::{Fault, FaultKind};
@@ -36,7 +37,7 @@ pub fn fault_answer(alloc: Global, fault: Fault) -> Result<Vec<u8>, Fault>
 {
     match fault.kind {
         FaultKind::NoMemory | FaultKind::Store => Err(fault),
-        _ => match upd_reply::fault(alloc, fault) {
+        _ => match fault_text(alloc, fault) {
             Ok(text) => Ok(text),
             Err(_) => Err(FaultKind::NoMemory.without_line()),
         },

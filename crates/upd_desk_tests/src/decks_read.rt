@@ -9,7 +9,7 @@ use crate::store_parts::FILE;
 use std::alloc::Global;
 use std::test::Fail;
 use upd_desk::Desk;
-use upd_list_store::ListStore;
+use upd_memory::ListStore;
 use upd_row_store::RowStore;
 use upd_testkit::asks::{Ask, lyon};
 use upd_testkit::check::{holds, same};

@@ -2,7 +2,7 @@
 use sqlite::{Connection, MemStore};
 use std::alloc::Global;
 use std::test::Fail;
-use upd_list_store::ListStore;
+use upd_memory::ListStore;
 use upd_row_store::RowStore;
 use upd_sqlite::Rising;
 use upd_store::SqlStore;

@@ -1,7 +1,7 @@
 //! Random lists of arrivals and settlements over lists, beside the reference desk.
 use std::alloc::Global;
 use std::test::Fail;
-use upd_list_store::ListStore;
+use upd_memory::ListStore;
 use upd_row_store::RowStore;
 use upd_testkit::asks::{Ask, Sent};
 use upd_testkit::check::holds;

@@ -10,7 +10,7 @@ use crate::store_asks::{Answered, StoreAsk, answers_alike, answers_each, rows_of
 use sqlite::MemStore;
 use std::alloc::Global;
 use std::test::Fail;
-use upd_list_store::ListStore;
+use upd_memory::ListStore;
 use upd_row_store::RowStore;
 use upd_store::SqlStore;
 use upd_testkit::asks::lyon;

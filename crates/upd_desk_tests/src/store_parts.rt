@@ -5,7 +5,7 @@ use crate::store_asks::StoreAsk::{Compiled, Mark, Names, Settle, Statuses, Store
 use crate::store_loads::{ACTIVE_NAMES, Case, DECK_A, DECK_B, TOP, TWO_DECKS, all_answer};
 use sqlite::MemStore;
 use std::test::Fail;
-use upd_list_store::ListStore;
+use upd_memory::ListStore;
 use upd_store::SqlStore;
 
 /// All cards of decks A and B and of set X but the first ones of decks.

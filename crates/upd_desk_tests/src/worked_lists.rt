@@ -5,7 +5,7 @@ use crate::steps::{Step, take, take_all, take_list};
 use sqlite::MemStore;
 use std::alloc::Global;
 use std::test::Fail;
-use upd_list_store::ListStore;
+use upd_memory::ListStore;
 use upd_row_store::RowStore;
 use upd_store::SqlStore;
 use upd_testkit::asks::{Ask, lyon};

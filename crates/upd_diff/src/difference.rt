@@ -9,7 +9,7 @@ ghost use Rattle.upd_diff.specs.States.{TakeGone};
 ghost use Rattle.upd_diff.specs.RowChanges.{RowChanges};
 ghost use Rattle.upd_diff.specs.Touched.{touched};
 
-use crate::decks::library_diff;
+use crate::deck_diffs::library_diff;
 use crate::row_changes::row_changes;
 use crate::touched::touched;
 use std::alloc::{AllocError, Global};

@@ -5,7 +5,7 @@
 #![tactic(auto)]
 
 mod card_diffs;
-mod decks;
+mod deck_diffs;
 pub mod difference;
 mod row_changes;
 mod touched;

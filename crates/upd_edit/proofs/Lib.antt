@@ -1,2 +1,3 @@
 pub mod ToldLemmas
 mod WarningLemmas
+mod YankLemmas

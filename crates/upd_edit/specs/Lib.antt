@@ -3,5 +3,7 @@ pub mod Source
 pub mod Trying
 pub mod RefusalLines
 pub mod NearWords
+pub mod WarningText
+pub mod YankWarnings
 pub mod Warnings
 pub mod EditCauses

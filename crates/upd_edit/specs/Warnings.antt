@@ -14,13 +14,11 @@ use Rattle.upd_core.specs.declared.target.Target.{Target}
 use Rattle.upd_core.specs.Library.{CardView, LibraryView, card_in, cards_of, name_of, place_of}
 use Rattle.upd_core.specs.Serials.{Serial}
 use Rattle.upd_core.specs.Status.{is_taken, live_targets}
-use Rattle.upd_deck.specs.Items.{ItemView, LineView, Text, Delete, Restore}
+use Rattle.upd_deck.specs.Items.{ItemView, LineView, Text, Delete, Restore, Yank, Purge}
 use Rattle.upd_deck.specs.Reading.{is_feed, reading}
 use Rattle.upd_edit.specs.NearWords.{near_word}
-
--- a warning at a line, its words in parts: `upd: LINE: words` and LF
-abbrev pub warning : ℕ → List Bytes → Bytes
-warning line parts = codes "upd: " ++ decimal line ++ codes ": " ++ flat_map (λ part. part) parts ++ 10 ∷ []
+use Rattle.upd_edit.specs.WarningText.{warning}
+use Rattle.upd_edit.specs.YankWarnings.{taking_warnings}
 
 -- ---- comments
 
@@ -101,16 +99,23 @@ abbrev pub item_warnings : LibraryView → ℕ → Bytes → ItemView → Bytes
 item_warnings l line text Text = text_warning line text
 item_warnings l line text (Delete first last) = ends_warnings line first last l ++ wide_warning line first last l
 item_warnings l line text (Restore first last) = wide_warning line first last l
+item_warnings l line text (Yank names) = taking_warnings line (codes "yank") l names
+item_warnings l line text (Purge names) = taking_warnings line (codes "purge") l names
 item_warnings l line text _ = []
 
 -- the warnings of a line
 abbrev pub line_warnings : LibraryView → LineView → Bytes
 line_warnings l line = item_warnings l line.number line.text line.item
 
+-- the warning of a run with no lines
+abbrev pub empty_warning : List LineView → Bytes
+empty_warning [] = warning 1 (codes "the run is empty: it changes nothing, and uses its number" ∷ [])
+empty_warning (line ∷ lines) = []
+
 -- the warnings of a run by its reading: of its comments, and then of its lines in order; none where it can't be read
 abbrev pub read_warnings : Bytes → Result (List LineView) Fault → LibraryView → Bytes
 read_warnings run (Err fault) l = []
-read_warnings run (Ok lines) l = comment_warning run ++ flat_map (line_warnings l) lines
+read_warnings run (Ok lines) l = comment_warning run ++ (empty_warning lines ++ flat_map (line_warnings l) lines)
 
 -- the warnings of a run that is tried on a library
 abbrev pub warning_lines : Bytes → LibraryView → Bytes

@@ -9,7 +9,9 @@ pub mod deck_text;
 pub mod editing;
 mod near_words;
 pub mod refused;
+mod warning_text;
 pub mod warnings;
+mod yank_warnings;
 
 pub use deck_source::source;
 pub use deck_text::active_text;

@@ -7,12 +7,13 @@ ghost use Rattle.upd_text.specs.Lines.{is_comment};
 ghost use Rattle.upd_text.specs.Outcome.{GivesAt};
 ghost use Rattle.upd_edit.specs.Warnings.{cards_between, comment_warning, dropped_warning, ends_warnings, last_entry};
 ghost use Rattle.upd_edit.specs.Warnings.{line_warnings, lines_of, meant_warning, off_by, off_by_warning, off_warning};
-ghost use Rattle.upd_edit.specs.Warnings.{text_warning, warning, warning_lines, wide_warning};
+ghost use Rattle.upd_edit.specs.Warnings.{empty_warning, text_warning, warning_lines, wide_warning};
 
 use crate::near_words::near_word;
+use crate::warning_text::push_warning;
+use crate::yank_warnings::push_taking;
 use itoa::Buffer;
 use std::alloc::{AllocError, Global};
-use upd_compile::parts::push_parts;
 use upd_core::ident::name_at;
 use upd_core::{Card, Entry, Library, Live, Name, Place, Serial};
 use upd_deck::{Item, Line, read_run};
@@ -31,6 +32,7 @@ pub fn warning_lines(alloc: Global, library: &Library, run: &[u8]) -> Result<Vec
     match read_run(alloc, run) {
         Ok(read) => {
             push_comments(&mut text, run)?;
+            push_empty(&mut text, read.lines())?;
             push_lines(&mut text, library, &library.live_yanks()?, read.lines())?;
             Ok(text)
         }
@@ -83,6 +85,20 @@ fn comment_count(run: &[u8]) -> usize
         .count()
 }
 
+/// Appends the warning of a run with no lines.
+fn push_empty(text: &mut Vec<u8>, lines: &[Line]) -> Result<(), AllocError>
+    ensures { OnOk result (text.new.items ≡ text.old.items ++ empty_warning lines.now) }
+{
+    match lines {
+        [] => push_warning(
+            text,
+            1,
+            &[b"the run is empty: it changes nothing, and uses its number"],
+        ),
+        [_, ..] => Ok(()),
+    }
+}
+
 /// Appends the warnings of lines.
 fn push_lines(
     text: &mut Vec<u8>,
@@ -117,6 +133,8 @@ fn push_line(
             push_wide(text, library, number, first, last)
         }
         Item::Restore { first, last } => push_wide(text, library, number, first, last),
+        Item::Yank(names) => push_taking(text, library, live, number, b"yank", names),
+        Item::Purge(names) => push_taking(text, library, live, number, b"purge", names),
         _ => Ok(()),
     }
 }
@@ -268,15 +286,4 @@ fn cards_between(library: &Library, from: Option<Place>, to: Option<Place>) -> u
             .saturating_sub(from.index),
         _ => 0,
     }
-}
-
-/// Appends a warning at a line: `upd: LINE: words` and LF.
-fn push_warning(text: &mut Vec<u8>, number: usize, words: &[&[u8]]) -> Result<(), AllocError>
-    ensures { OnOk result (text.new.items ≡ text.old.items ++ warning number (map (λ w. w.now) words.now)) }
-{
-    text.extend_from_slice(b"upd: ")?;
-    text.extend_from_slice(Buffer::new().format(number).as_bytes())?;
-    text.extend_from_slice(b": ")?;
-    push_parts(text, words)?;
-    text.extend_from_slice(b"\n")
 }

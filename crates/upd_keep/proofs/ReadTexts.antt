@@ -10,7 +10,7 @@ use Rattle.sqlite.specs.Listing.{understood, reads_listing}
 use Rattle.sqlite.proofs.Callers.{IsPlain, command_of}
 use Rattle.upd_sqlite.specs.Keyed.{plain_query}
 use Rattle.upd_sql.specs.Schema.{library_schema}
-use Rattle.upd_keep.specs.declared.texts.TheConstants as sql
+use Rattle.upd_keep.specs.declared.run_texts.TheConstants as sql
 
 abbrev pub all_versions : List ℕ
 all_versions = sql.ALL_VERSIONS.now

@@ -17,8 +17,8 @@ use Rattle.upd_text.specs.declared.fault.Fault.{Fault}
 use Rattle.upd_text.specs.declared.fault.FaultKind.TheVariants.{NoMemory, Store}
 use Rattle.upd_store.specs.Faults.{kind_for}
 use Rattle.upd_keep.specs.Examining.{ExaminesFile, FailsToOpen, ReportsOn, is_told}
-use Rattle.upd_keep.specs.declared.examining.Report.{Report}
-use Rattle.upd_keep.specs.declared.examining.Report.TheVariants.{Library, Other}
+use Rattle.upd_keep.specs.declared.file_examination.Report.{Report}
+use Rattle.upd_keep.specs.declared.file_examination.Report.TheVariants.{Library, Other}
 
 pub of_file : {C : Type 0} (state : C → State) (held : Image) (opened : C) (report : Result Report Fault)
     → (HasCleanDisk (state opened) → FindsIn held (state opened)) → ReportsOn state opened report → ExaminesFile state held report

@@ -28,10 +28,10 @@ use Rattle.upd_sql.specs.Schema.{library_schema, meta}
 use Rattle.upd_sqlite.specs.Stored.{HasRows}
 use Rattle.upd_keep.specs.Keeping.{AreKept}
 use Rattle.upd_keep.specs.declared.all_rows.AllRows.{AllRows}
-use Rattle.upd_keep.specs.declared.examining.Examined.{Examined}
-use Rattle.upd_keep.specs.declared.examining.Examined.TheVariants.{Sound, Unsound}
-use Rattle.upd_keep.specs.declared.examining.Report.{Report}
-use Rattle.upd_keep.specs.declared.examining.Report.TheVariants.{Library, Other}
+use Rattle.upd_keep.specs.declared.file_examination.Examined.{Examined}
+use Rattle.upd_keep.specs.declared.file_examination.Examined.TheVariants.{Sound, Unsound}
+use Rattle.upd_keep.specs.declared.file_examination.Report.{Report}
+use Rattle.upd_keep.specs.declared.file_examination.Report.TheVariants.{Library, Other}
 
 -- where the schema is the library's, the table of the version has one row
 abbrev pub HasOneVersion : Database → Type 0

@@ -3,8 +3,8 @@ use Rattle.std.specs.Prelude.{◌≡◌, ℕ, List}
 use Rattle.std.specs.Cmp.Lexicographic.{slice_cmp}
 use Rattle.std.specs.Ordering.{nat_cmp, ordering_then}
 use Rattle.std.specs.declared.cmp.Ordering.{Ordering}
-use Rattle.upd_overview.specs.RunLines.{run_lines}
-use Rattle.upd_overview.specs.SiteLines.{AreSiteLines}
+use Rattle.upd_views.specs.RunLines.{run_lines}
+use Rattle.upd_views.specs.SiteLines.{AreSiteLines}
 use Rattle.upd_records.specs.Rows.{MarkRow, Rows, RunView}
 use Rattle.upd_sql.specs.Listed.{AreInOrder}
 use Rattle.upd_keep.specs.declared.kept.Kept.{Kept}

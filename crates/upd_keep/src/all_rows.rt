@@ -7,7 +7,7 @@ ghost use Rattle.upd_sql.specs.LibraryTables.{ShowsTables};
 ghost use Rattle.upd_keep.specs.Examining.{AreAllRows, HasOneVersion, Reads};
 
 use crate::kept::Kept;
-use crate::stored::stored_kept;
+use crate::run_reads::stored_kept;
 use crate::versions::only_version;
 use sqlite::{Connection, Error};
 use std::alloc::Global;

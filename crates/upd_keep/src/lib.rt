@@ -5,18 +5,18 @@
 
 mod all_rows;
 mod copying;
-mod examining;
+mod file_examination;
 mod kept;
 mod looking_at;
-mod record;
+mod run_reads;
+mod run_records;
+mod run_tables;
+mod run_texts;
 mod situation;
-mod stored;
-mod texts;
 mod versions;
-mod whole;
 
 pub use copying::{backup, whole_copy};
-pub use examining::{Examined, Report, examine, examine_tables};
+pub use file_examination::{Examined, Report, examine, examine_tables};
 pub use kept::Kept;
+pub use run_reads::{runs_text, sites_text, stored_kept};
 pub use situation::Situation;
-pub use stored::{runs_text, sites_text, stored_kept};

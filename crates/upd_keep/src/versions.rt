@@ -6,9 +6,9 @@ ghost use Rattle.upd_sqlite.specs.Steps.{Steps};
 ghost use Rattle.upd_sql.specs.Commits.{WasOpen};
 ghost use Rattle.upd_keep.specs.Examining.{HasOneVersion};
 
-use crate::record::ILLEGIBLE;
-use crate::texts;
-use crate::whole::rows_of;
+use crate::run_records::ILLEGIBLE;
+use crate::run_tables::rows_of;
+use crate::run_texts;
 use sqlite::{Alter, Connection, Error, Transaction};
 use upd_sqlite::{Rising, begin};
 
@@ -20,7 +20,7 @@ fn only_version_in<S: Alter>(tx: &mut Transaction<'_, S>) -> Result<(), Error>
     ensures one { HasCleanDisk (state S.Store tx.new.conn.now)
         → IfOk result (λ _. HasOneVersion (state S.Store tx.old.conn.now).now) }
 {
-    let rows = rows_of(tx, texts::ALL_VERSIONS)?;
+    let rows = rows_of(tx, run_texts::ALL_VERSIONS)?;
     match rows.len() {
         1 => Ok(()),
         _ => Err(ILLEGIBLE),

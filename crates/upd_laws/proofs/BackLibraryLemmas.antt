@@ -10,6 +10,7 @@ use Rattle.upd_core.specs.Edits.{introduced, next_age, new_card, with_deck, with
 use Rattle.upd_core.specs.First.{at_first}
 use Rattle.upd_core.specs.Library.{CardView, DeckView, LibraryView, with_cards, is_deck}
 use Rattle.upd_core.specs.Sound.{AreAgedFrom}
+use Rattle.upd_apply.proofs.DirectoryLemmas.{idents_with}
 use Rattle.upd_laws.specs.PurgingBack.{AreAmong, DecksGoOn, IsNewDeck, Ended, Come}
 use Rattle.upd_laws.proofs.BackGrowthLemmas.{aged_append, among, among_append, among_twice, among_insert, among_range, decks, decks_on, decks_at_first}
 use Rattle.upd_laws.proofs.BackGrowthLemmas.{decks_twice}
@@ -52,14 +53,6 @@ grows_twice x l m n g h =
       rest = h.rest ∙ g.rest;
     }
 
-idents-with_cards : (d : ℕ) (change : List CardView → List CardView) (l : LibraryView) → (with_cards d change l).idents ≡ l.idents
-idents-with_cards d change l = in_deck (d == 0)
-  where
-    in_deck : (b : Bool) → (cond b (record l { yanks = change l.yanks })
-        (record l { decks = at_first (is_deck d) (λ e. record e { cards = change e.cards }) l.decks })).idents ≡ l.idents
-    in_deck true = refl
-    in_deck false = refl
-
 -- the cards of one deck changed
 grows_cards : (x : ℕ) (l : LibraryView) (d : ℕ) (change : List CardView → List CardView)
     → ((cs : List CardView) → AreAmong (Within x (length l.idents)) cs (change cs)) → Grows x l (with_cards d change l)
@@ -76,11 +69,11 @@ grows_card x l d after z number text targets w =
     grows_cards x l d _ (λ cs. among_insert _ (new_card z number text targets) w (w, tt) cs (length cs - after))
 
 pub idents-with_card : (d after : ℕ) (c : CardView) (l : LibraryView) → (with_card d after c l).idents ≡ l.idents
-idents-with_card d after c l = idents-with_cards d (λ cards. insert cards (length cards - after) c) l
+idents-with_card d after c l = idents_with d (λ cards. insert cards (length cards - after) c) l
 
 pub idents-with_entries : (d from to : ℕ) (e : Entry) (l : LibraryView) → (with_entries d from to e l).idents ≡ l.idents
 idents-with_entries d from to e l =
-    idents-with_cards d (entered_range from to e) l
+    idents_with d (entered_range from to e) l
 
 -- an entry on a range of cards
 pub grows_entries : (x : ℕ) (l : LibraryView) (d from to : ℕ) (e : Entry) → from ≤ to → Within x (length l.idents) e.ident

@@ -31,7 +31,7 @@ use Rattle.upd_compile.specs.Walk.{WalkEvent, Line, Follow, Depth, Unknown, card
 use Rattle.upd_laws.specs.ReadRuns.{HasLineTexts, IsOfRun}
 use Rattle.upd_laws.proofs.SoundListLemmas.{and_left, and_right, all_append, all_each, all_filter, all_flat, all_map, all_weaker}
 use Rattle.upd_core.proofs.FoundLemmas.{flat}
-use Rattle.upd_laws.proofs.SoundOutcomeLemmas.{holds_of}
+use Rattle.upd_apply.proofs.BindLemmas.{holds_of}
 
 -- ---- one line
 

@@ -1,34 +1,28 @@
 -- A run leaves the old cards of each deck in their order, but for those of idents that it purges.
-use Rattle.std.proofs.Common.{◌≡◌, ℕ, ◌+◌, Bool, true, false, not, ◌&&◌, if◌then◌else◌, cond, List, [], ◌∷◌, map, length, Some, Result, Ok, refl, sym}
-use Rattle.std.proofs.Common.{ap, ◌∙◌, subst, arith}
+use Rattle.std.proofs.Common.{◌≡◌, ℕ, ◌+◌, Bool, true, false, not, ◌&&◌, if◌then◌else◌, cond, List, [], ◌∷◌, map, length, Some, Ok, refl, sym}
+use Rattle.std.proofs.Common.{ap, ◌∙◌, arith}
 use Rattle.std.proofs.lemmas.Bool.{lt-leb}
 use Rattle.std.proofs.lemmas.List.{length-map}
 use Rattle.std.specs.Prelude.{◌==◌, nat_le}
 use Rattle.std.specs.Option.{option_map_or}
-use Rattle.std.specs.Result.{IfOk}
 use Rattle.std.specs.List.{filter, find, AllByRecursion}
 use Rattle.upd_core.specs.declared.ident.Ident.{Ident}
-use Rattle.upd_core.specs.Edits.{decks_without, is_among, purged, purged_in, unheld, without_idents}
+use Rattle.upd_core.specs.Edits.{decks_without, purged, purged_in, unheld, without_idents}
 use Rattle.upd_core.specs.First.{at_first}
 use Rattle.upd_core.specs.Library.{CardView, DeckView, LibraryView, all_decks, cards_of, is_deck}
-use Rattle.upd_deck.specs.Items.{ItemView, LineView, Text, Call, Deck, CommonDeck, Insert, Before, Delete, Restore, Yank, SelYank, YankDeck, Purge, PurgeFrom, SelPurge}
-use Rattle.upd_deck.specs.Items.{PurDeck, Compile}
-use Rattle.upd_deck.specs.Items as items
+use Rattle.upd_deck.specs.Items.{ItemView, LineView}
 use Rattle.upd_apply.specs.declared.state.State.{State}
-use Rattle.upd_apply.specs.Applying.{Reached, applied, started, stepped}
-use Rattle.upd_apply.specs.Names.{known_ident}
-use Rattle.upd_apply.specs.Purges.{AgesIn, decks_purged, idents_purged, pairs_purged}
-use Rattle.upd_apply.specs.Step.{ended, line_done, purged_in_all, step}
-use Rattle.upd_text.specs.declared.fault.FaultKind.{FaultKind}
-use Rattle.upd_text.specs.Outcome.{at_line}
-use Rattle.upd_laws.specs.PurgingBack.{AreAmong, DecksGoOn, IsNewDeck, Ended, Kept, Come, is_purge}
+use Rattle.upd_apply.specs.Applying.{Reached, applied, started}
+use Rattle.upd_apply.specs.LineEdits.{Edit, Purges, PurgesIn, carried, ended, purged_in_all}
+use Rattle.upd_apply.specs.Step.{step}
+use Rattle.upd_apply.proofs.EditLemmas.{Fits, of_step, purges_keep, steps_keep}
+use Rattle.upd_laws.specs.PurgingBack.{AreAmong, DecksGoOn, IsNewDeck, Ended, Kept, Come}
 use Rattle.upd_laws.specs.KeptCards.{KeepsCards, plain_cards, without_history}
 use Rattle.upd_laws.proofs.BackLibraryLemmas.{Grows, Within}
-use Rattle.upd_laws.proofs.BackStepLemmas.{Next, Ready, done_next}
+use Rattle.upd_laws.proofs.BackStepLemmas.{Next, Ready, edit_next}
 use Rattle.upd_laws.proofs.SoundCardLemmas.{changed, decks_with, idents_with}
 use Rattle.upd_laws.proofs.SoundListLemmas.{is_same_number, same_number}
-use Rattle.upd_laws.proofs.SoundOutcomeLemmas.{holds_of, through}
-use Rattle.upd_laws.proofs.SoundRunLemmas.{line_is, reached_by}
+use Rattle.upd_laws.proofs.SoundRunLemmas.{reached_by}
 
 -- ---- filters
 
@@ -226,19 +220,10 @@ kept_less d l m k kept less = (
       ∙ ap (filter (other_than less.0)) kept.1 ∙ filter_both (other_than less.0) (of_idents kept.0) (plain_cards d l),
 )
 
-kept_in_all : (d : ℕ) (l m : LibraryView) (ages : List AgesIn) → KeepsCards l m d → KeepsCards l (purged_in_all ages m) d
-kept_in_all d l m [] kept = kept
-kept_in_all d l m (a ∷ ages) kept =
-    kept_in_all d l (purged_in a.deck a.ident m) ages (kept_less d l m (purged_in a.deck a.ident m) kept (purged_in_loses a.deck a.ident d m))
-
 -- a state on the way of a run on l: all that it adds is of idents that l has not, and each deck keeps its old cards
 record IsKeeping (l : LibraryView) (s : State) : Type 0 where
   ready : Ready (length l.idents + 1) s
   cards : (d : ℕ) → KeepsCards l s.library d
-
-same_count : (ages : List AgesIn) (l : LibraryView) → (purged_in_all ages l).idents ≡ l.idents
-same_count [] l = refl
-same_count (a ∷ ages) l = same_count ages (purged_in a.deck a.ident l) ∙ idents_with a.deck (without_idents (λ x. x == a.ident)) l
 
 -- a purge leaves nothing in hand
 ended_keeping : (l m : LibraryView) (s : State) → IsKeeping l s → length m.idents ≡ length s.library.idents → ((d : ℕ) → KeepsCards l m d)
@@ -251,52 +236,27 @@ purged_keeping gone l s keeping =
     ended_keeping l (purged gone s.library) s keeping (length-map {B = Ident} s.library.idents (unheld gone))
     (λ d. kept_less d l s.library (purged gone s.library) (keeping.cards d) (purged_loses gone d s.library))
 
-grown_keeping : (item : ItemView) (text : List ℕ) (l : LibraryView) (s t : State) → is_purge item ≡ false → IsKeeping l s → line_done item text s ≡ Ok t
-    → IsKeeping l t
-grown_keeping item text l s t plain keeping h =
-    let n = length l.idents in
-    let next : Next (n + 1) s t = subst (λ (r : Result State FaultKind). IfOk r (Next (n + 1) s)) h (done_next (n + 1) item text s keeping.ready plain) in
-    record {
-      ready = next.ready;
-      cards = λ d. let kept = keeping.cards d in (kept.0, grown_old n d s.library t.library next.library ∙ kept.1);
-    }
+grown_keeping : (l : LibraryView) (s t : State) → IsKeeping l s → Next (length l.idents + 1) s t → IsKeeping l t
+grown_keeping l s t keeping next = record {
+  ready = next.ready;
+  cards = λ d. let kept = keeping.cards d in (kept.0, grown_old (length l.idents) d s.library t.library next.library ∙ kept.1);
+}
 
-line_keeping : (item : ItemView) (text : List ℕ) (l : LibraryView) (s t : State) → IsKeeping l s → line_done item text s ≡ Ok t → IsKeeping l t
-line_keeping (Purge ranges) text l s t keeping h =
-    through (idents_purged ranges s.library) _ t (IsKeeping l t) h
-    (λ ages e h1. holds_of (IsKeeping l) _ t h1 (purged_keeping (is_among ages) l s keeping))
-line_keeping (PurgeFrom name) text l s t keeping h =
-    through (known_ident name s.library) _ t (IsKeeping l t) h (λ age e h1. holds_of (IsKeeping l) _ t h1 (purged_keeping (nat_le age) l s keeping))
-line_keeping (SelPurge pairs) text l s t keeping h =
-    through (pairs_purged pairs s.library) _ t (IsKeeping l t) h (λ ages e h1. holds_of (IsKeeping l) _ t h1
-    (ended_keeping l (purged_in_all ages s.library) s keeping (ap length (same_count ages s.library))
-    (λ d. kept_in_all d l s.library ages (keeping.cards d))))
-line_keeping (PurDeck ranges) text l s t keeping h =
-    through (decks_purged ranges s.library) _ t (IsKeeping l t) h
-    (λ ages e h1. holds_of (IsKeeping l) _ t h1 (purged_keeping (is_among ages) l s keeping))
-line_keeping Text text l s t keeping h = grown_keeping Text text l s t refl keeping h
-line_keeping (Call name) text l s t keeping h = grown_keeping (Call name) text l s t refl keeping h
-line_keeping (items.Ident name) text l s t keeping h = grown_keeping (items.Ident name) text l s t refl keeping h
-line_keeping (Deck name) text l s t keeping h = grown_keeping (Deck name) text l s t refl keeping h
-line_keeping (CommonDeck name noprop) text l s t keeping h = grown_keeping (CommonDeck name noprop) text l s t refl keeping h
-line_keeping (Insert card) text l s t keeping h = grown_keeping (Insert card) text l s t refl keeping h
-line_keeping (Before card) text l s t keeping h = grown_keeping (Before card) text l s t refl keeping h
-line_keeping (Delete first last) text l s t keeping h = grown_keeping (Delete first last) text l s t refl keeping h
-line_keeping (Restore first last) text l s t keeping h = grown_keeping (Restore first last) text l s t refl keeping h
-line_keeping (Yank ranges) text l s t keeping h = grown_keeping (Yank ranges) text l s t refl keeping h
-line_keeping (SelYank pairs) text l s t keeping h = grown_keeping (SelYank pairs) text l s t refl keeping h
-line_keeping (YankDeck names) text l s t keeping h = grown_keeping (YankDeck names) text l s t refl keeping h
-line_keeping (Compile ranges) text l s t keeping h = grown_keeping (Compile ranges) text l s t refl keeping h
+edit_keeping : (item : ItemView) (text : List ℕ) (l : LibraryView) (s : State) (e : Edit) → Fits item text s e → IsKeeping l s → IsKeeping l (carried e s)
+edit_keeping item text l s (Purges gone) fits keeping = purged_keeping gone l s keeping
+edit_keeping item text l s (PurgesIn ages) fits keeping =
+    let same = purges_keep (λ m. m.idents ≡ s.library.idents) ages s.library (λ a m e. idents_with a.deck (without_idents (λ x. x == a.ident)) m ∙ e) refl in
+    ended_keeping l (purged_in_all ages s.library) s keeping (ap length same) (λ d. purges_keep (λ m. KeepsCards l m d) ages s.library
+    (λ a m kept. kept_less d l m (purged_in a.deck a.ident m) kept (purged_in_loses a.deck a.ident d m)) (keeping.cards d))
+edit_keeping item text l s e fits keeping =
+    grown_keeping l s (carried e s) keeping (edit_next (length l.idents + 1) item text s e fits keeping.ready refl)
 
-lines_keeping : (lines : List LineView) (l : LibraryView) (s t : State) → IsKeeping l s → stepped lines s ≡ Ok t → IsKeeping l t
-lines_keeping [] l s t keeping h = holds_of (IsKeeping l) s t h keeping
-lines_keeping (line ∷ lines) l s t keeping h =
-    through (at_line line.number (step line s)) _ t (IsKeeping l t) h (λ x e h1.
-    lines_keeping lines l x t (line_keeping line.item line.text l s x keeping (line_is line.number (step line s) x e)) h1)
+line_keeping : (l : LibraryView) (line : LineView) (s t : State) → IsKeeping l s → step line s ≡ Ok t → IsKeeping l t
+line_keeping l line s t keeping h = of_step (IsKeeping l) line s t h (λ e fits within. edit_keeping line.item line.text l s e fits keeping)
 
 pub run_keeps_cards : (lines : List LineView) (l : LibraryView) (r : Reached) (d : ℕ) → applied lines l ≡ Ok r → KeepsCards l r.library d
 run_keeps_cards lines l r d h =
-    reached_by (λ m. KeepsCards l m d) lines l r (λ s e. (lines_keeping lines l (started l) s (record {
+    reached_by (λ m. KeepsCards l m d) lines l r (λ s e. (steps_keep (IsKeeping l) lines (started l) s (line_keeping l) (record {
       ready = record { from = omega arith; current_set = tt; insert_point = tt };
       cards = λ d. ((λ z. nat_le z (length l.idents)), refl);
     }) e).cards d) h

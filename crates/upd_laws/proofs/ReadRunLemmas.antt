@@ -1,13 +1,10 @@
 -- Runs that were read: each card has the text of a line, and its number is at most the number of lines up to it.
-use Rattle.std.proofs.Common.{◌≡◌, ℕ, zero, suc, ◌+◌, ◌-◌, ◌<◌, ◌≤◌, Bool, true, false, not, ◌||◌, List, [], ◌∷◌, ◌++◌, map, length, take, drop, refl, sym}
+use Rattle.std.proofs.Common.{◌≡◌, ℕ, zero, suc, ◌+◌, ◌-◌, ◌<◌, ◌≤◌, Bool, true, false, List, [], ◌∷◌, ◌++◌, map, length, take, drop, refl, sym}
 use Rattle.std.proofs.Common.{subst, arith}
-use Rattle.std.specs.Prelude.{Option, Some, None, Result, Ok, Err, ◌==◌, nat_lt, nat_le, insert, IsTrue}
+use Rattle.std.specs.Prelude.{Option, Some, None, Result, Ok, Err, ◌==◌, insert, IsTrue}
 use Rattle.std.specs.Option.{IfSome}
 use Rattle.std.specs.List.{AllByRecursion}
-use Rattle.upd_text.specs.declared.card_ref.CardRef.{CardRef}
 use Rattle.upd_text.specs.declared.fault.Fault.{Fault}
-use Rattle.upd_text.specs.declared.fault.FaultKind.{FaultKind}
-use Rattle.upd_text.specs.declared.fault.FaultKind.TheVariants as fault
 use Rattle.upd_text.specs.declared.limits.TheConstants.{MAX_RUN_LINES}
 use Rattle.upd_text.specs.Names.{is_name}
 use Rattle.upd_text.specs.Outcome.{at_line}
@@ -18,28 +15,28 @@ use Rattle.upd_core.specs.declared.ident.Kind.TheVariants as kind
 use Rattle.upd_core.specs.declared.target.Target.{Target}
 use Rattle.upd_core.specs.Edits.{introduced, next_age, new_card, unheld, entered, without_idents, with_deck, with_card, with_yank, with_entries, purged}
 use Rattle.upd_core.specs.Edits.{entered_range}
-use Rattle.upd_core.specs.Edits.{purged_in, is_among}
-use Rattle.upd_core.specs.Library.{CardView, DeckView, LibraryView, empty, all_decks, is_deck, place_of, with_cards}
+use Rattle.upd_core.specs.Edits.{purged_in}
+use Rattle.upd_core.specs.Library.{CardView, DeckView, LibraryView, empty, all_decks, is_deck, with_cards}
 use Rattle.upd_core.specs.Sound.{all_cards}
-use Rattle.upd_deck.specs.Items.{ItemView, LineView, Text, Call, Ident, Deck, CommonDeck, Insert, Before, Delete, Restore, Yank, SelYank, YankDeck, Purge}
-use Rattle.upd_deck.specs.Items.{PurgeFrom, SelPurge, PurDeck, Compile}
+use Rattle.upd_deck.specs.Items.{ItemView, LineView}
 use Rattle.upd_apply.specs.declared.CurrentSet.{CurrentSet}
 use Rattle.upd_apply.specs.declared.state.InsertPoint.{InsertPoint}
 use Rattle.upd_apply.specs.declared.state.InsertPoint.TheVariants.{Nowhere, End, Inside}
 use Rattle.upd_apply.specs.declared.state.State.{State}
 use Rattle.upd_apply.specs.Applying.{Reached, applied, started, stepped}
-use Rattle.upd_apply.specs.Step.{line_done, step, new_name, set_begun, deck_begun, is_deck_card, placed_after, placed_before, switched, text_put, yank_put, ended}
-use Rattle.upd_apply.specs.Step.{purged_in_all}
-use Rattle.upd_apply.specs.Purges.{AgesIn}
-use Rattle.upd_apply.specs.Yanks.{sets_yanked, pairs_yanked, decks_yanked}
+use Rattle.upd_apply.specs.Directives.{new_name_of}
+use Rattle.upd_apply.specs.LineEdits.{Edit, Stays, NewSet, NewDeck, AddsAtEnd, AddsInside, Switches, AddsYank, Purges, PurgesIn}
+use Rattle.upd_apply.specs.LineEdits.{carried, ended}
+use Rattle.upd_apply.specs.Step.{step}
+use Rattle.upd_apply.proofs.BindLemmas.{bind_ok, holds_of, line_is}
+use Rattle.upd_apply.proofs.EditLemmas.{Fits, of_step, purges_keep}
 use Rattle.upd_laws.specs.ReadRuns.{HasLineTexts, IsLineText, IsOfRun, WereRead}
 use Rattle.upd_laws.specs.Soundness.{after_run, after_runs}
 use Rattle.upd_laws.proofs.ReadLineLemmas.{BringsName, IsReadLine, run_read}
 use Rattle.upd_laws.proofs.SoundListLemmas.{all_append, all_each, all_flat, all_map, all_weaker, more_all, at_first_all}
 use Rattle.upd_core.proofs.FoundLemmas.{flat}
 use Rattle.upd_laws.proofs.SoundCardLemmas.{changed, decks_with, idents_with, insert_more, more_with_yank, more_with_deck, all_purged, all_purged_in}
-use Rattle.upd_laws.proofs.SoundOutcomeLemmas.{through, through_need, through_refusal, through_grown, holds_of}
-use Rattle.upd_laws.proofs.SoundRunLemmas.{line_is, reached_by}
+use Rattle.upd_laws.proofs.SoundRunLemmas.{reached_by}
 
 -- ---- each edit
 
@@ -108,10 +105,6 @@ made_purged_in d z l made = record {
   cards = all_purged_in IsOfRun d (λ x. x == z) l (λ c e h. h) made.cards;
 }
 
-made_purged_in_all : (ages : List AgesIn) (l : LibraryView) → HasLineTexts l → HasLineTexts (purged_in_all ages l)
-made_purged_in_all [] l made = made
-made_purged_in_all (a ∷ ages) l made = made_purged_in_all ages (purged_in a.deck a.ident l) (made_purged_in a.deck a.ident l made)
-
 -- ---- each line
 
 -- a number from 1 to k
@@ -141,135 +134,71 @@ more_spot k (Inside d behind) up = tt
 more_made : (k : ℕ) (s : State) → IsMade k s → IsMade (k + 1) s
 more_made k s made = record { library = made.library; current_set = more_hand k s.current_set made.current_set; insert_point = more_spot k s.insert_point made.insert_point }
 
-set_made : (k : ℕ) (name : List ℕ) (s t : State) → 0 < k → is_name name ≡ true → IsMade k s → set_begun name s ≡ Ok t → IsMade (k + 1) t
-set_made k name s t some named made h =
-    through (new_name name s.library) _ t (IsMade (k + 1) t) h (λ b e h1.
-    through_grown (introduced name kind.Set false s.library) _ t (IsMade (k + 1) t) h1 (λ h2.
-    holds_of (IsMade (k + 1)) _ t h2 (record {
-      library = made_introduced name kind.Set false s.library named made.library;
-      current_set = (omega arith, omega arith);
-      insert_point = tt;
-    })))
-
-begun_made : (k : ℕ) (name : List ℕ) (sort : Kind) (noprop : Bool) (text : List ℕ) (s t : State) → 0 < k → is_name name ≡ true → IsLineText text → IsMade k s
-    → deck_begun name sort noprop text s ≡ Ok t → IsMade (k + 1) t
-begun_made k name sort noprop text s t some named fits made h =
-    through (new_name name s.library) _ t (IsMade (k + 1) t) h (λ b e h1.
-    let a = next_age s.library in
-    let c : CardView = new_card a 1 text [] in
-    let up : IsUpTo MAX_RUN_LINES 1 = (omega arith, omega arith) in
-    through_grown (with_deck (record { ident = a; cards = c ∷ [] }) (introduced name sort noprop s.library)) _ t (IsMade (k + 1) t) h1 (λ h2.
-    holds_of (IsMade (k + 1)) _ t h2 (record {
-      library = made_deck a c (introduced name sort noprop s.library) (fits, up.0, up.1) (made_introduced name sort noprop s.library named made.library);
-      current_set = more_hand k s.current_set made.current_set;
-      insert_point = (omega arith, omega arith);
-    })))
-
-text_made : (k : ℕ) (text : List ℕ) (s t : State) (insert_point : InsertPoint) → s.insert_point ≡ insert_point → k ≤ MAX_RUN_LINES → IsLineText text → IsMade k s → text_put text insert_point s ≡ Ok t
-    → IsMade (k + 1) t
-text_made k text s t Nowhere e few fits made h = absurd (cc)
-text_made k text s t (End d n) e few fits made h =
-    let up : IsUpTo k n = subst (IsSpotUpTo k) e made.insert_point in
-    let most = up.1 in
-    let fit : IsUpTo MAX_RUN_LINES n = (up.0, omega arith) in
-    through_grown (with_card d 0 (new_card d n text []) s.library) _ t (IsMade (k + 1) t) h (λ h1.
-    holds_of (IsMade (k + 1)) _ t h1 (record {
-      library = made_card d 0 (new_card d n text []) s.library (fits, fit.0, fit.1) made.library;
-      current_set = more_hand k s.current_set made.current_set;
-      insert_point = (omega arith, omega arith);
-    }))
-text_made k text s t (Inside d after) e few fits made h =
-    through_need fault.TextNowhere s.current_set _ t (IsMade (k + 1) t) h (λ current_set f h1.
-    through_refusal (d == 0) fault.YankText _ t (IsMade (k + 1) t) h1 (λ g h2.
-    let c : CardView = new_card current_set.ident current_set.next text [] in
-    let up : IsUpTo k current_set.next = subst (λ o. IfSome o (λ (h : CurrentSet). IsUpTo k h.next)) f made.current_set in
-    let most = up.1 in
-    let fit : IsUpTo MAX_RUN_LINES current_set.next = (up.0, omega arith) in
-    through_grown (with_card d after c s.library) _ t (IsMade (k + 1) t) h2 (λ h3.
-    holds_of (IsMade (k + 1)) _ t h3 (record {
-      library = made_card d after c s.library (fits, fit.0, fit.1) made.library;
-      current_set = (omega arith, omega arith);
-      insert_point = more_spot k s.insert_point made.insert_point;
-    }))))
-
-yank_made : (k : ℕ) (text : List ℕ) (targets : ℕ → LibraryView → Result (List Target) FaultKind) (s t : State) → k ≤ MAX_RUN_LINES → IsLineText text
-    → IsMade k s
-    → yank_put text targets s ≡ Ok t → IsMade (k + 1) t
-yank_made k text targets s t few fits made h =
-    through_need fault.NoIdent s.current_set _ t (IsMade (k + 1) t) h (λ current_set e h1.
-    through (targets current_set.ident s.library) _ t (IsMade (k + 1) t) h1 (λ found f h2.
-    let c : CardView = new_card current_set.ident current_set.next text found in
-    let up : IsUpTo k current_set.next = subst (λ o. IfSome o (λ (h : CurrentSet). IsUpTo k h.next)) e made.current_set in
-    let most = up.1 in
-    let fit : IsUpTo MAX_RUN_LINES current_set.next = (up.0, omega arith) in
-    through_grown (with_yank c s.library) _ t (IsMade (k + 1) t) h2 (λ h3.
-    holds_of (IsMade (k + 1)) _ t h3 (record {
-      library = made_yank c s.library (fits, fit.0, fit.1) made.library;
-      current_set = (omega arith, omega arith);
-      insert_point = tt;
-    }))))
-
-after_made : (k : ℕ) (card : CardRef) (s t : State) → IsMade k s → placed_after card s ≡ Ok t → IsMade (k + 1) t
-after_made k card s t made h =
-    through_need fault.NoIdent s.current_set _ t (IsMade (k + 1) t) h (λ current_set e h1.
-    through_need fault.CardUnknown (place_of card s.library) _ t (IsMade (k + 1) t) h1 (λ p f h2.
-    through_refusal (p.deck == 0) fault.YankText _ t (IsMade (k + 1) t) h2 (λ g h3.
-    holds_of (IsMade (k + 1)) _ t h3 (record { library = made.library; current_set = more_hand k s.current_set made.current_set; insert_point = tt }))))
-
-before_made : (k : ℕ) (card : CardRef) (s t : State) → IsMade k s → placed_before card s ≡ Ok t → IsMade (k + 1) t
-before_made k card s t made h =
-    through_need fault.NoIdent s.current_set _ t (IsMade (k + 1) t) h (λ current_set e h1.
-    through_need fault.CardUnknown (place_of card s.library) _ t (IsMade (k + 1) t) h1 (λ p f h2.
-    through_refusal (p.deck == 0) fault.YankText _ t (IsMade (k + 1) t) h2 (λ g h3.
-    through_refusal (is_deck_card p) fault.DeckCard _ t (IsMade (k + 1) t) h3 (λ n h4.
-    holds_of (IsMade (k + 1)) _ t h4 (record { library = made.library; current_set = more_hand k s.current_set made.current_set; insert_point = tt })))))
-
-switched_made : (k : ℕ) (active : Bool) (first last : CardRef) (s t : State) → IsMade k s → switched active first last s ≡ Ok t → IsMade (k + 1) t
-switched_made k active first last s t made h =
-    through_need fault.NoIdent s.current_set _ t (IsMade (k + 1) t) h (λ current_set e h1.
-    through_need fault.CardUnknown (place_of first s.library) _ t (IsMade (k + 1) t) h1 (λ p f h2.
-    through_need fault.CardUnknown (place_of last s.library) _ t (IsMade (k + 1) t) h2 (λ q g h3.
-    through_refusal (not (p.deck == q.deck) || nat_lt q.index p.index) fault.RangeOrder _ t (IsMade (k + 1) t) h3 (λ n h4.
-    through_refusal (is_deck_card p) fault.DeckCard _ t (IsMade (k + 1) t) h4 (λ m h5.
-    let entry : Entry = record { ident = current_set.ident; active = active } in
-    through_grown (with_entries p.deck p.index q.index entry s.library) _ t (IsMade (k + 1) t) h5 (λ h6.
-    holds_of (IsMade (k + 1)) _ t h6 (record {
-      library = made_entries p.deck p.index q.index entry s.library made.library;
-      current_set = more_hand k s.current_set made.current_set;
-      insert_point = tt;
-    })))))))
-
 ended_made : (k : ℕ) (l : LibraryView) → HasLineTexts l → IsMade k (ended l)
 ended_made k l made = record { library = made; current_set = tt; insert_point = tt }
 
-done_made : (k : ℕ) (item : ItemView) (text : List ℕ) (s t : State) → 0 < k → k ≤ MAX_RUN_LINES → IsLineText text → BringsName item → IsMade k s
-    → line_done item text s ≡ Ok t
-    → IsMade (k + 1) t
-done_made k Text text s t some few fits named made h = text_made k text s t s.insert_point refl few fits made h
-done_made k (Call name) text s t some few fits named made h = text_made k text s t s.insert_point refl few fits made h
-done_made k (Ident name) text s t some few fits named made h = set_made k name s t some named made h
-done_made k (Deck name) text s t some few fits named made h = begun_made k name kind.Deck false text s t some named fits made h
-done_made k (CommonDeck name noprop) text s t some few fits named made h = begun_made k name kind.Common noprop text s t some named fits made h
-done_made k (Insert card) text s t some few fits named made h = after_made k card s t made h
-done_made k (Before card) text s t some few fits named made h = before_made k card s t made h
-done_made k (Delete first last) text s t some few fits named made h = switched_made k false first last s t made h
-done_made k (Restore first last) text s t some few fits named made h = switched_made k true first last s t made h
-done_made k (Yank ranges) text s t some few fits named made h = yank_made k text (sets_yanked ranges) s t few fits made h
-done_made k (SelYank pairs) text s t some few fits named made h = yank_made k text (pairs_yanked pairs) s t few fits made h
-done_made k (YankDeck names) text s t some few fits named made h = yank_made k text (decks_yanked names) s t few fits made h
-done_made k (Purge ranges) text s t some few fits named made h =
-    through _ _ t (IsMade (k + 1) t) h (λ ages e h1.
-    holds_of (IsMade (k + 1)) _ t h1 (ended_made (k + 1) _ (made_purged (is_among ages) s.library made.library)))
-done_made k (PurgeFrom name) text s t some few fits named made h =
-    through _ _ t (IsMade (k + 1) t) h (λ age e h1.
-    holds_of (IsMade (k + 1)) _ t h1 (ended_made (k + 1) _ (made_purged (nat_le age) s.library made.library)))
-done_made k (SelPurge pairs) text s t some few fits named made h =
-    through _ _ t (IsMade (k + 1) t) h (λ ages e h1.
-    holds_of (IsMade (k + 1)) _ t h1 (ended_made (k + 1) _ (made_purged_in_all ages s.library made.library)))
-done_made k (PurDeck ranges) text s t some few fits named made h =
-    through _ _ t (IsMade (k + 1) t) h (λ ages e h1.
-    holds_of (IsMade (k + 1)) _ t h1 (ended_made (k + 1) _ (made_purged (is_among ages) s.library made.library)))
-done_made k (Compile ranges) text s t some few fits named made h = holds_of (IsMade (k + 1)) s t h (more_made k s made)
+-- the next number of the current set is up to k
+hand_up : (k : ℕ) (s : State) (c : CurrentSet) → s.current_set ≡ Some c → IsMade k s → IsUpTo k c.next
+hand_up k s c held made = subst (λ o. IfSome o (λ (h : CurrentSet). IsUpTo k h.next)) held made.current_set
+
+is_of_run : (k z n : ℕ) (text added : List ℕ) (targets : List Target) → k ≤ MAX_RUN_LINES → IsUpTo k n → IsLineText text → added ≡ text
+    → IsOfRun (new_card z n added targets)
+is_of_run k z n text added targets few up fits same = let most = up.1 in (subst IsLineText (sym same) fits, up.0, omega arith)
+
+name_is : (item : ItemView) (name : List ℕ) → new_name_of item ≡ Some name → BringsName item → is_name name ≡ true
+name_is item name is named = subst (λ o. IfSome o (λ n. IsTrue (is_name n))) is named
+
+edit_made : (k : ℕ) (item : ItemView) (text : List ℕ) (s : State) (e : Edit) → 0 < k → k ≤ MAX_RUN_LINES → IsLineText text → BringsName item
+    → Fits item text s e → IsMade k s → IsMade (k + 1) (carried e s)
+edit_made k item text s (NewSet name) some few line named fits made = record {
+  library = made_introduced name kind.Set false s.library (name_is item name fits.named named) made.library;
+  current_set = (omega arith, omega arith);
+  insert_point = tt;
+}
+edit_made k item text s (NewDeck name sort noprop first) some few line named fits made =
+    let l = introduced name sort noprop s.library in
+    let c : IsOfRun (new_card (next_age s.library) 1 first []) = is_of_run k (next_age s.library) 1 text first [] few (omega arith, some) line fits.2 in
+    record {
+      library = made_deck (next_age s.library) (new_card (next_age s.library) 1 first []) l c
+          (made_introduced name sort noprop s.library (name_is item name fits.0.named named) made.library);
+      current_set = more_hand k s.current_set made.current_set;
+      insert_point = (omega arith, omega arith);
+    }
+edit_made k item text s (AddsAtEnd d n added) some few line named fits made =
+    let up : IsUpTo k n = subst (IsSpotUpTo k) fits.0 made.insert_point in
+    let most = up.1 in
+    record {
+      library = made_card d 0 (new_card d n added []) s.library (is_of_run k d n text added [] few up line fits.1) made.library;
+      current_set = more_hand k s.current_set made.current_set;
+      insert_point = (omega arith, omega arith);
+    }
+edit_made k item text s (AddsInside d after c added) some few line named fits made =
+    let up = hand_up k s c fits.held made in
+    let most = up.1 in
+    record {
+      library = made_card d after (new_card c.ident c.next added []) s.library (is_of_run k c.ident c.next text added [] few up line fits.same_text) made.library;
+      current_set = (omega arith, omega arith);
+      insert_point = more_spot k s.insert_point made.insert_point;
+    }
+edit_made k item text s (Switches active c p q) some few line named fits made = record {
+  library = made_entries p.deck p.index q.index (record { ident = c.ident; active = active }) s.library made.library;
+  current_set = more_hand k s.current_set made.current_set;
+  insert_point = tt;
+}
+edit_made k item text s (AddsYank c added found) some few line named fits made =
+    let up = hand_up k s c fits.held made in
+    let most = up.1 in
+    record {
+      library = made_yank (new_card c.ident c.next added found) s.library (is_of_run k c.ident c.next text added found few up line fits.same_text) made.library;
+      current_set = (omega arith, omega arith);
+      insert_point = tt;
+    }
+edit_made k item text s (Purges gone) some few line named fits made = ended_made (k + 1) _ (made_purged gone s.library made.library)
+edit_made k item text s (PurgesIn ages) some few line named fits made =
+    ended_made (k + 1) _ (purges_keep HasLineTexts ages s.library (λ a m h. made_purged_in a.deck a.ident m h) made.library)
+edit_made k item text s Stays some few line named fits made = more_made k s made
+edit_made k item text s _ some few line named fits made =
+    record { library = made.library; current_set = more_hand k s.current_set made.current_set; insert_point = tt }
 
 -- ---- lines and runs
 
@@ -277,9 +206,10 @@ steps_made : (k : ℕ) (lines : List LineView) (s t : State) → 0 < k → k + l
     → stepped lines s ≡ Ok t → HasLineTexts t.library
 steps_made k [] s t some few fit made h = holds_of (λ (x : State). HasLineTexts x.library) s t h made.library
 steps_made k (line ∷ lines) s t some few fit made h =
-    through (at_line line.number (step line s)) _ t (HasLineTexts t.library) h (λ x e h1.
-    let after = done_made k line.item line.text s x some (omega arith) fit.0.0 fit.0.1 made (line_is line.number (step line s) x e) in
-    steps_made (k + 1) lines x t (omega arith) (omega arith) fit.1 after h1)
+    bind_ok (at_line line.number (step line s)) _ t (HasLineTexts t.library) h (λ x e.
+    let after = of_step (IsMade (k + 1)) line s x (line_is line.number (step line s) x e)
+    (λ e fits within. edit_made k line.item line.text s e some (omega arith) fit.0.0 fit.0.1 fits made) in
+    steps_made (k + 1) lines x t (omega arith) (omega arith) fit.1 after)
 
 pub run_made : (lines : List LineView) (l : LibraryView) (r : Reached) → WereRead lines → HasLineTexts l → applied lines l ≡ Ok r → HasLineTexts r.library
 run_made lines l r were made h =

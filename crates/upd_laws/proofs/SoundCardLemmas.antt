@@ -20,6 +20,7 @@ use Rattle.upd_laws.proofs.SoundListLemmas.{at_first_find, at_first_more, at_fir
 use Rattle.upd_laws.proofs.SoundIdentLemmas.{held_still}
 use Rattle.upd_core.proofs.ApartLemmas.{all_front, all_back}
 use Rattle.upd_core.proofs.FoundLemmas.{flat}
+pub use Rattle.upd_apply.proofs.DirectoryLemmas.{idents_with}
 
 -- a deck with its cards changed
 abbrev pub changed : (List CardView → List CardView) → DeckView → DeckView
@@ -38,13 +39,6 @@ decks_with age change l = go (age == 0) refl
     go : (b : Bool) → (age == 0) ≡ b → all_decks (with_cards age change l) ≡ at_first (is_deck age) (changed change) (all_decks l)
     go true e = let f : is_deck age front ≡ true = is_same_number 0 age (sym (same_number age 0 e)) in rw (e, f) refl
     go false e = let f : is_deck age front ≡ false = ne_eqb 0 age (λ same. other_number age 0 e (sym same)) in rw (e, f) refl
-
-pub idents_with : (age : ℕ) (change : List CardView → List CardView) (l : LibraryView) → (with_cards age change l).idents ≡ l.idents
-idents_with age change l = go (age == 0) refl
-  where
-    go : (b : Bool) → (age == 0) ≡ b → (with_cards age change l).idents ≡ l.idents
-    go true e = rw e refl
-    go false e = rw e refl
 
 pub rest_with : (age : ℕ) (change : List CardView → List CardView) (l : LibraryView) → (with_cards age change l).rest ≡ l.rest
 rest_with age change l = go (age == 0) refl

@@ -10,7 +10,7 @@ use Rattle.std.specs.List.{filter, find, AllByRecursion}
 use Rattle.upd_core.specs.declared.ident.Ident.{Ident}
 use Rattle.upd_core.specs.Edits.{unheld}
 use Rattle.upd_core.specs.Library.{held_named, is_deck_kind}
-use Rattle.upd_core.specs.Sound.{AreApart, AreAgedFrom, is_held, is_held_deck, Continues}
+use Rattle.upd_core.specs.Sound.{AreApart, AreAgedFrom, is_held, is_held_deck}
 use Rattle.upd_laws.proofs.SoundListLemmas.{and_left, and_right, both, same_number, is_same_number, apart_end, all_filter, all_map}
 use Rattle.upd_laws.proofs.SoundListLemmas.{all_weaker, IsPart, none, fewer, kept, any_end, any_front, any_last, any_mapped, any_weaker, find_none_end}
 use Rattle.upd_laws.proofs.SoundListLemmas.{find_none_mapped}
@@ -192,40 +192,3 @@ all_from n test idents ages = all_filter (λ (i : Ident). n ≤ i.age) test iden
     go : (m : ℕ) (is : List Ident) → AreAgedFrom m is → AllByRecursion (λ (i : Ident). m ≤ i.age) is
     go m [] ages = tt
     go m (i ∷ is) ages = (omega (arith, ages.0), all_weaker (λ (j : Ident). m + 1 ≤ j.age) (λ j. m ≤ j.age) is (λ j h. omega arith) (go (m + 1) is ages.1))
-
--- ---- how it is extended
-
-pub continues_more : (idents more : List Ident) → Continues idents (idents ++ more)
-continues_more [] more = tt
-continues_more (i ∷ idents) more = (inl refl, continues_more idents more)
-
-pub continues_same : (idents : List Ident) → Continues idents idents
-continues_same [] = tt
-continues_same (i ∷ idents) = (inl refl, continues_same idents)
-
-pub continues_unheld : (gone : ℕ → Bool) (idents : List Ident) → Continues idents (map (unheld gone) idents)
-continues_unheld gone [] = tt
-continues_unheld gone (i ∷ idents) = (go i.held refl (not (gone i.age)), continues_unheld gone idents)
-  where
-    with_held : Bool → Ident
-    with_held h = record i { held = h }
-
-    go : (h : Bool) → i.held ≡ h → (b : Bool) → (with_held (i.held && b) ≡ i) ⊎ (with_held (i.held && b) ≡ with_held false)
-    go false f b = inr (ap (λ h. with_held (h && b)) f)
-    go true f true = inl (ap (λ h. with_held (h && true)) f ∙ ap with_held (sym f))
-    go true f false = inr (ap (λ h. with_held (h && false)) f)
-
-pub continues_on : (a b c : List Ident) → Continues a b → Continues b c → Continues a c
-continues_on [] b c p q = tt
-continues_on (i ∷ a) [] c p q = absurd p
-continues_on (i ∷ a) (j ∷ b) [] p q = absurd q
-continues_on (i ∷ a) (j ∷ b) (k ∷ c) p q = (one p.0 q.0, continues_on a b c p.1 q.1)
-  where
-    off : Ident → Ident
-    off i = record i { held = false }
-
-    one : (j ≡ i) ⊎ (j ≡ off i) → (k ≡ j) ⊎ (k ≡ off j) → (k ≡ i) ⊎ (k ≡ off i)
-    one (inl e) (inl f) = inl (f ∙ e)
-    one (inl e) (inr f) = inr (f ∙ ap off e)
-    one (inr e) (inl f) = inr (f ∙ e)
-    one (inr e) (inr f) = inr (f ∙ ap off e)

@@ -24,7 +24,8 @@ use Rattle.upd_laws.proofs.SoundListLemmas.{and_right, both, or_none_left, or_no
 use Rattle.upd_laws.proofs.SoundListLemmas.{zip_all}
 use Rattle.upd_laws.proofs.SoundCardLemmas.{IsEntered, all_without}
 use Rattle.upd_laws.proofs.SoundIdentLemmas.{all_from, found_from}
-use Rattle.upd_laws.proofs.SoundOutcomeLemmas.{each_all, through, through_option, through_refusal, holds_of}
+use Rattle.upd_apply.proofs.BindLemmas.{bind_ok, holds_of}
+use Rattle.upd_laws.proofs.SoundOutcomeLemmas.{each_all, need_ok, refusal_ok}
 
 -- ---- order of serial
 
@@ -116,7 +117,7 @@ all_once P (t ∷ found) all = (all.0, all_filter P (λ u. not (is_same t u)) (o
 yanked_are : {A : Type 0} (z : ℕ) (targets : A → Result (List Target) FaultKind) (fields : List A) (t : List Target)
     → ((field : A) (found : List Target) → targets field ≡ Ok found → AllByRecursion (TakesOlder z) found) → yanked targets fields ≡ Ok t → AreYanked z t
 yanked_are z targets fields t older h =
-    through (each targets fields) _ t (AreYanked z t) h (λ found e h1.
+    bind_ok (each targets fields) _ t (AreYanked z t) h (λ found e h1.
     holds_of (AreYanked z) _ t h1 (record {
       older = all_once (TakesOlder z) found (each_all (TakesOlder z) targets fields found older e);
       apart = once_apart found;
@@ -132,8 +133,8 @@ older_in ages z l from e =
 
 ident_positive : (name : List ℕ) (l : LibraryView) (z : ℕ) → AreAgedFrom 1 l.idents → known_ident name l ≡ Ok z → 0 < z
 ident_positive name l z from h =
-    through_refusal (is_reserved name) fault.Reserved _ z (0 < z) h (λ e h1.
-    through_option fault.IdentUnknown (ident_of name l) z (0 < z) h1 (λ f. go (held_named name l.idents) refl f))
+    refusal_ok (is_reserved name) fault.Reserved _ z (0 < z) h (λ e h1.
+    need_ok fault.IdentUnknown (ident_of name l) z (0 < z) h1 (λ f. go (held_named name l.idents) refl f))
   where
     go : (o : Option Ident) → held_named name l.idents ≡ o → option_map (λ (i : Ident). i.age) o ≡ Some z → 0 < z
     go None e f = absurd (cc)
@@ -141,8 +142,8 @@ ident_positive name l z from h =
 
 deck_positive : (name : List ℕ) (l : LibraryView) (d : ℕ) → AreAgedFrom 1 l.idents → known_deck name l ≡ Ok d → 0 < d
 deck_positive name l d from h =
-    through_refusal (is_reserved name) fault.Reserved _ d (0 < d) h (λ e h1.
-    through_option fault.DeckUnknown (deck_of name l) d (0 < d) h1 (λ f. go (held_named name l.idents) refl f))
+    refusal_ok (is_reserved name) fault.Reserved _ d (0 < d) h (λ e h1.
+    need_ok fault.DeckUnknown (deck_of name l) d (0 < d) h1 (λ f. go (held_named name l.idents) refl f))
   where
     age_in : Bool → ℕ → Option ℕ
     age_in b a = if b then Some a else None
@@ -161,8 +162,8 @@ sets_are z l ranges t from h = yanked_are z (range_targets z l) ranges t one h
   where
     one : (range : NameRange) (found : List Target) → range_targets z l range ≡ Ok found → AllByRecursion (TakesOlder z) found
     one range found h =
-        through (ages_by known_ident range l) _ found (AllByRecursion (TakesOlder z) found) h (λ ages e h1.
-        through_refusal (nat_le z ages.to) fault.YankSelf _ found (AllByRecursion (TakesOlder z) found) h1 (λ f h2.
+        bind_ok (ages_by known_ident range l) _ found (AllByRecursion (TakesOlder z) found) h (λ ages e h1.
+        refusal_ok (nat_le z ages.to) fault.YankSelf _ found (AllByRecursion (TakesOlder z) found) h1 (λ f h2.
         holds_of (AllByRecursion (TakesOlder z)) _ found h2 (all_map (TakesOlder z) Set (idents_in ages l) (older_in ages z l from f))))
 
 pub pairs_are : (z : ℕ) (l : LibraryView) (pairs : List IdentIn) (t : List Target) → AreAgedFrom 1 l.idents → pairs_yanked pairs z l ≡ Ok t → AreYanked z t
@@ -170,9 +171,9 @@ pairs_are z l pairs t from h = yanked_are z (pair_targets z l) pairs t one h
   where
     one : (pair : IdentIn) (found : List Target) → pair_targets z l pair ≡ Ok found → AllByRecursion (TakesOlder z) found
     one pair found h =
-        through (known_deck pair.deck l) _ found (AllByRecursion (TakesOlder z) found) h (λ d e h1.
-        through (known_ident pair.ident l) _ found (AllByRecursion (TakesOlder z) found) h1 (λ y g h2.
-        through_refusal (nat_le z d || nat_le z y) fault.YankSelf _ found (AllByRecursion (TakesOlder z) found) h2 (λ f h3.
+        bind_ok (known_deck pair.deck l) _ found (AllByRecursion (TakesOlder z) found) h (λ d e h1.
+        bind_ok (known_ident pair.ident l) _ found (AllByRecursion (TakesOlder z) found) h1 (λ y g h2.
+        refusal_ok (nat_le z d || nat_le z y) fault.YankSelf _ found (AllByRecursion (TakesOlder z) found) h2 (λ f h3.
         let left = or_none_left (nat_le z d) (nat_le z y) f in
         let right = or_none_right (nat_le z d) (nat_le z y) f in
         let deck : IsOlder z d = (deck_positive pair.deck l d from e, grind (arith, nat_tests)) in
@@ -184,7 +185,7 @@ decks_are z l names t from h = yanked_are z (deck_targets z l) names t one h
   where
     one : (name : List ℕ) (found : List Target) → deck_targets z l name ≡ Ok found → AllByRecursion (TakesOlder z) found
     one name found h =
-        through (known_deck name l) _ found (AllByRecursion (TakesOlder z) found) h (λ d e h1.
-        through_refusal (nat_le z d) fault.YankSelf _ found (AllByRecursion (TakesOlder z) found) h1 (λ f h2.
+        bind_ok (known_deck name l) _ found (AllByRecursion (TakesOlder z) found) h (λ d e h1.
+        refusal_ok (nat_le z d) fault.YankSelf _ found (AllByRecursion (TakesOlder z) found) h1 (λ f h2.
         let deck : IsOlder z d = (deck_positive name l d from e, grind (arith, nat_tests)) in
         holds_of (AllByRecursion (TakesOlder z)) _ found h2 (deck, tt)))

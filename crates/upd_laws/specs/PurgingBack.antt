@@ -1,5 +1,5 @@
 -- Runs without purges: how a library grows by them, and what is left once their idents are purged.
-use Rattle.std.specs.Prelude.{◌≡◌, ℕ, ◌<◌, ◌≤◌, Bool, true, false, not, IsTrue, List, [], ◌∷◌, ◌++◌, length, Result, Ok}
+use Rattle.std.specs.Prelude.{◌≡◌, ℕ, ◌<◌, ◌≤◌, Bool, false, not, IsTrue, List, [], ◌∷◌, ◌++◌, length, Result, Ok}
 use Rattle.std.specs.List.{list_all, AllByRecursion}
 use Rattle.upd_core.specs.declared.card.Entry.{Entry}
 use Rattle.upd_text.specs.declared.fault.Fault.{Fault}
@@ -8,18 +8,11 @@ use Rattle.upd_core.specs.Edits.{next_age}
 use Rattle.upd_core.specs.Library.{CardView, DeckView, LibraryView}
 use Rattle.upd_text.specs.Outcome.{◌>>=◌}
 use Rattle.upd_core.specs.Sound.{AreAgedFrom}
-use Rattle.upd_deck.specs.Items.{ItemView, LineView, Purge, PurgeFrom, SelPurge, PurDeck}
+use Rattle.upd_deck.specs.Items.{LineView}
 use Rattle.upd_apply.specs.Applying.{applied}
+use Rattle.upd_apply.specs.Directives.{is_purge}
 
 -- ---- runs
-
--- whether a line purges
-abbrev pub is_purge : ItemView → Bool
-is_purge (Purge ranges) = true
-is_purge (PurgeFrom name) = true
-is_purge (SelPurge pairs) = true
-is_purge (PurDeck ranges) = true
-is_purge _ = false
 
 -- no line of a run is a purge
 abbrev pub purges_nothing : List LineView → Bool

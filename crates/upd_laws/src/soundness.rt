@@ -5,13 +5,13 @@ ghost use Rattle.upd_core.specs.Library.{LibraryView, empty};
 ghost use Rattle.upd_core.specs.Limits.{is_within_limits};
 ghost use Rattle.upd_core.specs.Sound.{Continues, IsSound, IsWhole};
 ghost use Rattle.upd_core.specs.Status.{IsAged};
-ghost use Rattle.upd_deck.specs.Items.{LineView};
+ghost use Rattle.upd_deck.specs.Items.{LineView, Text};
 ghost use Rattle.upd_text.specs.declared.fault.FaultKind.TheVariants as fault;
 ghost use Rattle.upd_apply.specs.declared.CurrentSet.{CurrentSet};
 ghost use Rattle.upd_apply.specs.declared.state.InsertPoint.TheVariants.{Nowhere, Inside};
 ghost use Rattle.upd_apply.specs.declared.state.State.{State};
 ghost use Rattle.upd_apply.specs.Applying.{Reached, applied, started, stepped};
-ghost use Rattle.upd_apply.specs.Step.{step, text_put};
+ghost use Rattle.upd_apply.specs.Step.{carried_out, judged, step};
 ghost use Rattle.upd_laws.specs.KeptCards.{KeepsCards};
 ghost use Rattle.upd_laws.specs.Soundness.{after_runs, IsSoundState};
 
@@ -29,7 +29,7 @@ pub fn text_inside_has_a_set_in_hand()
         → s.insert_point ≡ Inside d after → (h : CurrentSet) × (s.current_set ≡ Some h) }
     ensures nowhere { (lines : List LineView) (l : LibraryView) (s : State) (text : List ℕ) → IsSound l
         → stepped lines (started l) ≡ Ok s
-        → text_put text s.insert_point s ≡ Err fault.TextNowhere → s.insert_point ≡ Nowhere }
+        → carried_out (judged Text text s) s ≡ Err fault.TextNowhere → s.insert_point ≡ Nowhere }
 {}
 
 /// A run keeps a sound library sound, and so does a purge of any idents. A whole library stays whole.

@@ -25,7 +25,7 @@ use Rattle.upd_sql.specs.Schema.{library_schema, meta_columns}
 use Rattle.upd_sql.specs.LibraryTables.{HoldsTables}
 use Rattle.upd_sql.proofs.Typed.{changes}
 use Rattle.upd_migrate.specs.declared.completing.TheConstants.{SET_VERSION}
-use Rattle.upd_migrate.specs.declared.version.Version.{Version}
+use Rattle.upd_migrate.specs.declared.older_version.Version.{Version}
 use Rattle.upd_migrate.specs.Older.{HasTables, number_of}
 
 -- the next table is made, and the others have their rows

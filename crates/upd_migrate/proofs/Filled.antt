@@ -19,7 +19,7 @@ use Rattle.upd_sql.specs.Commits.{Looks}
 use Rattle.upd_sql.specs.Making.{Transforms}
 use Rattle.upd_sql.specs.LibraryTables.{HoldsTables}
 use Rattle.upd_sql.proofs.MakingLemmas.{transforms_then}
-use Rattle.upd_migrate.specs.declared.version.Version.TheVariants.{First}
+use Rattle.upd_migrate.specs.declared.older_version.Version.TheVariants.{First}
 use Rattle.upd_migrate.specs.Migrated.{AreLibraryRows, IsFilled, IsMigrated, HoldsAfter, completed}
 use Rattle.upd_migrate.specs.Older.{schema_of, stored_in}
 use Rattle.upd_migrate.proofs.RowChanges.{all_else_stays}

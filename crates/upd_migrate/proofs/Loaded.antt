@@ -11,8 +11,8 @@ use Rattle.upd_sqlite.proofs.Frames.{held}
 use Rattle.upd_sql.specs.Commits.{Looks}
 use Rattle.upd_sql.specs.Making.{Transforms}
 use Rattle.upd_sql.specs.LibraryTables.{HoldsTables}
-use Rattle.upd_migrate.specs.declared.version.Version.{Version}
-use Rattle.upd_migrate.specs.declared.version.Version.TheVariants.{First, Second, Third}
+use Rattle.upd_migrate.specs.declared.older_version.Version.{Version}
+use Rattle.upd_migrate.specs.declared.older_version.Version.TheVariants.{First, Second, Third}
 use Rattle.upd_migrate.specs.Migrated.{completed}
 use Rattle.upd_migrate.specs.Older.{ShowsAs, schema_of, stored_in}
 

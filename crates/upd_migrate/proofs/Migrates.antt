@@ -16,7 +16,7 @@ use Rattle.upd_sql.specs.Making.{Transforms}
 use Rattle.upd_sql.specs.Schema.{library_schema}
 use Rattle.upd_sql.specs.LibraryTables.{ShowsTables}
 use Rattle.upd_store.specs.Version.{HasVersion}
-use Rattle.upd_migrate.specs.declared.version.Version.{Version}
+use Rattle.upd_migrate.specs.declared.older_version.Version.{Version}
 use Rattle.upd_migrate.specs.Migrated.{AreLibraryRows, HasMigrated, IsMigrated, MayMigrate, MayMigrateFrom, Migrates, MigratesFrom, HoldsAfter}
 use Rattle.upd_migrate.specs.Older.{ShowsAs, number_of, schema_of, stored_in}
 use Rattle.upd_migrate.proofs.Loaded.{begun_holds}

@@ -3,8 +3,8 @@ use Rattle.std.proofs.Common.{◌≡◌, length, refl, sym, ap, ◌∙◌, arith
 use Rattle.sqlite_schema.specs.declared.schema.Schema.{Schema}
 use Rattle.sqlite_tied.specs.Compute.{everything}
 use Rattle.upd_sql.specs.Wanted.{first_tables}
-use Rattle.upd_migrate.specs.declared.version.Version.{Version}
-use Rattle.upd_migrate.specs.declared.version.Version.TheVariants.{First, Second, Third}
+use Rattle.upd_migrate.specs.declared.older_version.Version.{Version}
+use Rattle.upd_migrate.specs.declared.older_version.Version.TheVariants.{First, Second, Third}
 use Rattle.upd_migrate.specs.Older.{schema_of, tables_of}
 
 pub first_is : (version : Version) → first_tables (tables_of version) ≡ schema_of version

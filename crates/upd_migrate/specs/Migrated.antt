@@ -9,8 +9,8 @@ use Rattle.upd_records.specs.Rows.{Rows, Shows, ShowsStates}
 use Rattle.upd_sql.specs.Commits.{ShowsIn}
 use Rattle.upd_sql.specs.LibraryTables.{ShowsTables, HoldsTables}
 use Rattle.upd_store.specs.Version.{HasVersion}
-use Rattle.upd_migrate.specs.declared.version.Version.{Version}
-use Rattle.upd_migrate.specs.declared.version.Version.TheVariants.{First, Second, Third}
+use Rattle.upd_migrate.specs.declared.older_version.Version.{Version}
+use Rattle.upd_migrate.specs.declared.older_version.Version.TheVariants.{First, Second, Third}
 use Rattle.upd_migrate.specs.Older.{ShowsAs, number_of, schema_of}
 
 -- the tables of a version with those that it lacks, which have no rows

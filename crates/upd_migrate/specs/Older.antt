@@ -8,8 +8,8 @@ use Rattle.upd_sqlite.specs.Stored.{HasAllRows, HoldsAllRows}
 use Rattle.upd_sql.specs.Encoded.{stored, version_row}
 use Rattle.upd_sql.specs.Making.{schema_up_to}
 use Rattle.upd_sql.specs.Schema.{library_schema}
-use Rattle.upd_migrate.specs.declared.version.Version.{Version}
-use Rattle.upd_migrate.specs.declared.version.Version.TheVariants.{First, Second, Third}
+use Rattle.upd_migrate.specs.declared.older_version.Version.{Version}
+use Rattle.upd_migrate.specs.declared.older_version.Version.TheVariants.{First, Second, Third}
 
 -- the number in the file
 abbrev pub number_of : Version → ℕ

@@ -10,9 +10,9 @@ ghost use Rattle.upd_sql.specs.Making.{schema_up_to, Transforms, MakesNext};
 ghost use Rattle.upd_sql.specs.LibraryTables.{HoldsTables};
 ghost use Rattle.upd_migrate.specs.Migrated.{completed};
 ghost use Rattle.upd_migrate.specs.Older.{HasTables, schema_of, stored_in};
-ghost use Rattle.upd_migrate.specs.declared.version.Version.{Version};
+ghost use Rattle.upd_migrate.specs.declared.older_version.Version.{Version};
 
-use crate::version::Version;
+use crate::older_version::Version;
 use sqlite::{Alter, Error, Transaction};
 use upd_sql::{CREATE_COUNTS, CREATE_SETTLED, CREATE_STATES};
 use upd_sqlite::run;

@@ -13,7 +13,7 @@ ghost use Rattle.upd_migrate.specs.Older.{schema_of, stored_in};
 
 use crate::completing::complete;
 use crate::initial_states::initial_states;
-use crate::version::Version;
+use crate::older_version::Version;
 use sqlite::{Alter, Error, ErrorCode, Transaction};
 use std::alloc::Global;
 use upd_row_store::assembled;

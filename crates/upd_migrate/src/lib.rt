@@ -10,7 +10,7 @@ mod filling;
 mod initial_states;
 mod loading;
 mod migrating;
-mod version;
+mod older_version;
 
 pub use loading::load_rows;
 pub use migrating::migrate;

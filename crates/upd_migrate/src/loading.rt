@@ -9,10 +9,10 @@ ghost use Rattle.upd_store.specs.Faults.{IsUnopened};
 ghost use Rattle.upd_store.specs.Version.{HasVersion};
 ghost use Rattle.upd_migrate.specs.Migrated.{AreLibraryRows};
 ghost use Rattle.upd_migrate.specs.Older.{ShowsAs};
-ghost use Rattle.upd_migrate.specs.declared.version.Version.{Version};
+ghost use Rattle.upd_migrate.specs.declared.older_version.Version.{Version};
 
 use crate::completing::complete;
-use crate::version::{Version, known_version};
+use crate::older_version::{Version, known_version};
 use sqlite::{Connection, Error};
 use std::alloc::Global;
 use upd_core::Library;

@@ -8,7 +8,7 @@ ghost use Rattle.upd_store.specs.Version.{HasVersion};
 ghost use Rattle.upd_migrate.specs.Migrated.{HasKnown, MayMigrate, MayMigrateFrom, Migrates, MigratesFrom};
 
 use crate::filling::fill;
-use crate::version::{Version, known_version};
+use crate::older_version::{Version, known_version};
 use sqlite::{Connection, Error};
 use std::alloc::Global;
 use upd_sqlite::{Rising, begin};

@@ -5,8 +5,7 @@ use Rattle.upd_text.specs.declared.fault.Fault.{Fault}
 use Rattle.upd_text.specs.Outcome.{◌>>=◌, at_line, each}
 use Rattle.upd_core.specs.Library.{LibraryView}
 use Rattle.upd_core.specs.Sound.{IsSound}
-use Rattle.upd_deck.specs.Items.{ItemView, LineView, Text, Call, Ident, Deck, CommonDeck, Insert, Before, Delete, Restore, Yank, SelYank, YankDeck, Purge}
-use Rattle.upd_deck.specs.Items.{PurgeFrom, SelPurge, PurDeck, Compile}
+use Rattle.upd_deck.specs.Items.{ItemView, LineView, Compile}
 use Rattle.upd_apply.specs.declared.state.State.{State}
 use Rattle.upd_apply.specs.Applying.{Reached, ages_brought, applied, started, stepped}
 use Rattle.upd_apply.specs.Compile.{decks_in_any, line_ranges, named_decks}
@@ -19,23 +18,8 @@ use Rattle.upd_partial.proofs.StepLemmas.{in_part, parted}
 
 -- what `*COMPILE` names depends only on the directory
 ranges_same : (out : ℕ → Bool) (l : LibraryView) (item : ItemView) → line_ranges (part out l) item ≡ line_ranges l item
-ranges_same out l Text = refl
-ranges_same out l (Call name) = refl
-ranges_same out l (Ident name) = refl
-ranges_same out l (Deck name) = refl
-ranges_same out l (CommonDeck name noprop) = refl
-ranges_same out l (Insert card) = refl
-ranges_same out l (Before card) = refl
-ranges_same out l (Delete first last) = refl
-ranges_same out l (Restore first last) = refl
-ranges_same out l (Yank ranges) = refl
-ranges_same out l (SelYank pairs) = refl
-ranges_same out l (YankDeck names) = refl
-ranges_same out l (Purge ranges) = refl
-ranges_same out l (PurgeFrom name) = refl
-ranges_same out l (SelPurge pairs) = refl
-ranges_same out l (PurDeck ranges) = refl
 ranges_same out l (Compile ranges) = refl
+ranges_same out l _ = refl
 
 decks_same : (out : ℕ → Bool) (lines : List LineView) (l : LibraryView) → named_decks lines (part out l) ≡ named_decks lines l
 decks_same out lines l =

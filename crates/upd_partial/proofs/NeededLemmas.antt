@@ -1,25 +1,26 @@
 -- The decks that have the cards which a run names are all that it needs.
-use Rattle.std.proofs.Common.{◌≡◌, ℕ, Bool, true, false, not, ◌&&◌, List, [], ◌∷◌, map, Some, refl, sym, ◌∙◌, subst}
+use Rattle.std.proofs.Common.{◌≡◌, ℕ, Bool, true, false, not, ◌&&◌, List, [], ◌∷◌, map, Option, None, Some, refl, sym, ◌∙◌, subst}
 use Rattle.std.proofs.Common.{arith}
 use Rattle.std.proofs.lemmas.Bool.Decides.{nat_tests}
 use Rattle.std.specs.Prelude.{◌==◌, length, nat_le, slice_get}
-use Rattle.std.specs.List.{filter, find, AllByRecursion}
+use Rattle.std.specs.List.{filter, find, list_any, AllByRecursion}
 use Rattle.std.specs.Option.{option_map_or}
 use Rattle.upd_text.specs.declared.card_ref.CardRef.{CardRef}
 use Rattle.upd_core.specs.declared.ident.Ident.{Ident}
 use Rattle.upd_core.specs.declared.library.Place.{Place}
 use Rattle.upd_core.specs.Edits.{is_among}
-use Rattle.upd_core.specs.Library.{CardView, DeckView, LibraryView, card_in, is_deck, place_of, ref_of}
+use Rattle.upd_core.specs.Library.{CardView, DeckView, LibraryView, card_in, cards_of, is_deck, place_of, ref_of}
 use Rattle.upd_core.specs.Sound.{IsSound}
 use Rattle.upd_core.proofs.ApartLemmas.{all_by_index}
 use Rattle.upd_core.proofs.FoundLemmas.{card_of_place}
 use Rattle.upd_records.specs.Rows.{same_ref}
 use Rattle.upd_records.proofs.EqualLemmas.{same_ref_own}
 use Rattle.upd_diff.proofs.StateLemmas.{any_of}
+use Rattle.upd_yank.proofs.FindLemmas.{any_at}
 use Rattle.upd_deck.specs.Items.{LineView}
-use Rattle.upd_row_store.specs.Asked.{decks_with, holds_one, is_asked}
+use Rattle.upd_row_store.specs.Asked.{are_in_yanks, decks_with, holds_one, is_asked}
 use Rattle.upd_laws.proofs.SoundListLemmas.{all_each, all_weaker, same_number}
-use Rattle.upd_partial.specs.Needed.{cards_named}
+use Rattle.upd_partial.specs.Needed.{cards_named, is_yank_card}
 use Rattle.upd_partial.specs.Needless.{NamesNone, cards_of_item, is_left_out}
 
 -- ---- a card that is asked for is in a deck
@@ -73,6 +74,31 @@ row_changes_or_yank cards l card p sound asked at = go (0 == p.deck) refl (p.dec
     go x e true f = rw f refl
     go true e false f = absurd (let same : p.deck ≡ 0 = sym (same_number 0 p.deck e) in let bad : (p.deck == 0) ≡ true = grind (arith, nat_tests) in cc)
     go false e false f = let row_changes = among e in rw row_changes (end (not (p.deck == 0)) (nat_le p.deck (length l.idents)))
+
+-- no card that is asked for is a yank card where `YANK$$$` has none of them
+pub none_yank : (cards : List CardRef) (l : LibraryView) → IsSound l → are_in_yanks cards l ≡ false → list_any (is_yank_card l) cards ≡ false
+none_yank cards l sound none = go (list_any (is_yank_card l) cards) refl
+  where
+    held : (p : Place) (c : CardView) (card : CardRef) (k : ℕ) → slice_get cards k ≡ Some card → p.deck ≡ 0 → card_in p l ≡ Some c
+        → ref_of l.idents c ≡ card → are_in_yanks cards l ≡ true
+    held p c card k named zero at is =
+        any_of (λ c. is_asked cards (ref_of l.idents c)) l.yanks p.index c (subst (λ d. slice_get (cards_of d l) p.index ≡ Some c) zero at)
+        (subst (λ r. is_asked cards r ≡ true) (sym is) (asked_own cards k card named))
+
+    placed : (card : CardRef) (k : ℕ) → slice_get cards k ≡ Some card → (o : Option Place) → place_of card l ≡ o
+        → option_map_or (λ (p : Place). p.deck == 0) o false ≡ true → are_in_yanks cards l ≡ true
+    placed card k named None at some = absurd (cc)
+    placed card k named (Some p) at some = by (card_of_place l card p sound at)
+      where
+        by : (c : CardView) × (card_in p l ≡ Some c) × (ref_of l.idents c ≡ card) → are_in_yanks cards l ≡ true
+        by (c, stands, is) = held p c card k named (same_number p.deck 0 some) stands is
+
+    named : (k : ℕ) × (card : CardRef) × (slice_get cards k ≡ Some card) × (is_yank_card l card ≡ true) → are_in_yanks cards l ≡ true
+    named (k, card, at, some) = placed card k at (place_of card l) refl some
+
+    go : (b : Bool) → list_any (is_yank_card l) cards ≡ b → b ≡ false
+    go false e = refl
+    go true e = absurd (let clash = sym (named (any_at (is_yank_card l) cards e)) ∙ none in cc)
 
 -- a run that names cards doesn't need the decks that have none of them
 pub others_unnamed : (lines : List LineView) (l : LibraryView) → IsSound l → NamesNone (is_left_out (decks_with (cards_named lines) l) l) lines l

@@ -1,9 +1,9 @@
 -- Plain runs on a part of a library: what they leave in the part is what they leave in the whole, and what is left out stays.
-use Rattle.std.proofs.Common.{◌≡◌, ℕ, ◌-◌, ◌<◌, ◌≤◌, Bool, true, false, not, cond, ◌&&◌, ◌||◌, ltb, List, [], ◌∷◌, ◌++◌, length, Option, Some, None}
+use Rattle.std.proofs.Common.{◌≡◌, ℕ, ◌-◌, ◌<◌, ◌≤◌, Bool, true, false, cond, ◌&&◌, List, [], ◌∷◌, ◌++◌, length, Option, Some, None}
 use Rattle.std.proofs.Common.{Result, Ok, Err, refl, sym, ap, ◌∙◌, subst, arith}
 use Rattle.std.proofs.lemmas.Bool.{and_parts}
 use Rattle.std.proofs.lemmas.List.Folds.{find-append}
-use Rattle.std.specs.Prelude.{◌==◌, IsTrue, insert}
+use Rattle.std.specs.Prelude.{IsTrue, insert}
 use Rattle.std.specs.List.{AllByRecursion}
 use Rattle.std.specs.Option.{option_map, option_or}
 use Rattle.std.specs.Result.{IfOk}
@@ -11,28 +11,24 @@ use Rattle.std.specs.Str.{bytes_eq}
 use Rattle.upd_text.specs.declared.card_ref.CardRef.{CardRef}
 use Rattle.upd_text.specs.declared.fault.Fault.{Fault}
 use Rattle.upd_text.specs.declared.fault.FaultKind.{FaultKind}
-use Rattle.upd_text.specs.declared.fault.FaultKind.TheVariants as fault
-use Rattle.upd_text.specs.Outcome.{◌>>=◌, at_line, need, refuse_if}
-use Rattle.upd_text.proofs.OutcomeLemmas.{after_any, after_need}
+use Rattle.upd_text.specs.Outcome.{◌>>=◌, at_line}
 use Rattle.upd_core.specs.declared.card.Entry.{Entry}
 use Rattle.upd_core.specs.declared.ident.Ident.{Ident as OneIdent}
 use Rattle.upd_core.specs.declared.ident.Kind.{Kind}
 use Rattle.upd_core.specs.declared.ident.Kind.TheVariants as kind
-use Rattle.upd_core.specs.Edits.{entered_range, introduced, next_age, new_card, with_deck, with_card, with_entries}
-use Rattle.upd_core.specs.Library.{DeckView, LibraryView, held_named, place_in, place_of}
-use Rattle.upd_deck.specs.Items.{ItemView, LineView, Text, Call, Ident, Deck, CommonDeck, Insert, Before, Delete, Restore, Yank, SelYank, YankDeck, Purge}
-use Rattle.upd_deck.specs.Items.{PurgeFrom, SelPurge, PurDeck, Compile}
-use Rattle.upd_apply.specs.declared.state.InsertPoint.{InsertPoint}
-use Rattle.upd_apply.specs.declared.state.InsertPoint.TheVariants.{Nowhere, End, Inside}
+use Rattle.upd_core.specs.Edits.{entered_range, introduced, next_age, new_card}
+use Rattle.upd_core.specs.Library.{DeckView, LibraryView, held_named, place_in}
+use Rattle.upd_deck.specs.Items.{LineView}
 use Rattle.upd_apply.specs.declared.state.State.{State}
 use Rattle.upd_apply.specs.Applying.{stepped}
-use Rattle.upd_apply.specs.Step.{new_name, set_begun, deck_begun, placed_after, placed_before, switched, text_put, is_deck_card, line_done, step}
-use Rattle.upd_apply.proofs.StepLemmas.{after_grown}
+use Rattle.upd_apply.specs.LineEdits.{Edit, Stays, MovesAfter, MovesBefore, NewSet, NewDeck, AddsAtEnd, AddsInside, Switches, carried}
+use Rattle.upd_apply.specs.Step.{step}
+use Rattle.upd_apply.proofs.EditLemmas.{of_each}
 use Rattle.upd_laws.proofs.BackLibraryLemmas.{idents-with_card, idents-with_entries, length-introduced}
 use Rattle.upd_laws.proofs.SoundListLemmas.{all_weaker}
 use Rattle.upd_partial.specs.Needless.{is_plain, cards_of_item, is_plain_item, left_out}
-use Rattle.upd_partial.proofs.PartLemmas.{AreNotIn, IsNotIn, deck_kept, with_cards_left, with_deck_left}
-use Rattle.upd_partial.proofs.StepLemmas.{Leaves, SpotStays, done_same, in_part, parted}
+use Rattle.upd_partial.proofs.PartLemmas.{AreNotIn, IsNotIn, with_cards_left, with_deck_left}
+use Rattle.upd_partial.proofs.StepLemmas.{Leaves, Misses, SpotStays, in_part, misses, parted, step_same}
 
 -- ---- new names
 
@@ -80,89 +76,47 @@ same_names out s t left same insert_point = record {
   named = λ card lacks z is. lacks z (ap (λ is. option_map (λ (i : OneIdent). i.age) (held_named card.name is)) (sym same) ∙ is);
 }
 
-set_keeps : (out : ℕ → Bool) (name : List ℕ) (s : State) → AreOfListed (left_out out s.library) s.library → IfOk (set_begun name s) (Keeps out s)
-set_keeps out name s old =
-    let l = introduced name kind.Set false s.library in
-    let more : length l.idents ≡ next_age s.library = length-introduced s.library name kind.Set false in
-    after_any _ (new_name name s.library) _ (λ _. after_grown _ l _ (record {
+edit_keeps : (out : ℕ → Bool) (s : State) (e : Edit) → Misses out s e → Leaves out s → AreOfListed (left_out out s.library) s.library
+    → Keeps out s (carried e s)
+edit_keeps out s (NewSet name) stays leaves old =
+    let more : length (introduced name kind.Set false s.library).idents ≡ next_age s.library = length-introduced s.library name kind.Set false in
+    record {
       left = refl;
       more = omega (arith, more);
       insert_point = tt;
       named = λ card. named_more (left_out out s.library) s.library name kind.Set false card old;
-    }))
-
-deck_keeps : (out : ℕ → Bool) (name : List ℕ) (sort : Kind) (noprop : Bool) (text : List ℕ) (s : State) → AreOfListed (left_out out s.library) s.library
-    → out (next_age s.library) ≡ false → IfOk (deck_begun name sort noprop text s) (Keeps out s)
-deck_keeps out name sort noprop text s old stays =
+    }
+edit_keeps out s (NewDeck name sort noprop text) stays leaves old =
     let z = next_age s.library in
     let d : DeckView = record { ident = z; cards = new_card z 1 text [] ∷ [] } in
     let l = introduced name sort noprop s.library in
     let more : length l.idents ≡ z = length-introduced s.library name sort noprop in
-    after_any _ (new_name name s.library) _ (λ _. after_grown _ (with_deck d l) _ (record {
+    record {
       left = with_deck_left out d l stays;
       more = omega (arith, more);
       insert_point = stays;
       named = λ card. named_more (left_out out s.library) s.library name sort noprop card old;
-    }))
+    }
+edit_keeps out s (AddsAtEnd d next text) stays leaves old =
+    same_names out s _ (with_cards_left out d (λ cards. insert cards (length cards - 0) (new_card d next text [])) s.library stays)
+    (idents-with_card d 0 _ s.library) stays
+edit_keeps out s (AddsInside d after c text) stays leaves old =
+    same_names out s _ (with_cards_left out d (λ cards. insert cards (length cards - after) (new_card c.ident c.next text [])) s.library stays)
+    (idents-with_card d after _ s.library) leaves.insert_point
+edit_keeps out s (Switches active c p q) stays leaves old =
+    let e : Entry = record { ident = c.ident; active = active } in
+    same_names out s _ (with_cards_left out p.deck (entered_range p.index q.index e) s.library stays.0)
+    (idents-with_entries p.deck p.index q.index e s.library) stays.1
+edit_keeps out s Stays stays leaves old = same_names out s s refl refl leaves.insert_point
+edit_keeps out s (MovesAfter p) stays leaves old = same_names out s _ refl refl stays
+edit_keeps out s (MovesBefore p) stays leaves old = same_names out s _ refl refl stays
+edit_keeps out s _ stays leaves old = absurd stays
 
-after_keeps : (out : ℕ → Bool) (card : CardRef) (s : State) → IsNotIn (left_out out s.library) s.library card
-    → IfOk (placed_after card s) (Keeps out s)
-after_keeps out card s lacks =
-    after_any _ (need fault.NoIdent s.current_set) _ (λ _. after_need _ fault.CardUnknown (place_of card s.library) _ (λ p at.
-    after_any _ (refuse_if (p.deck == 0) fault.YankText) _ (λ _. same_names out s _ refl refl (deck_kept out s.library card p lacks at))))
-
-before_keeps : (out : ℕ → Bool) (card : CardRef) (s : State) → IsNotIn (left_out out s.library) s.library card
-    → IfOk (placed_before card s) (Keeps out s)
-before_keeps out card s lacks =
-    after_any _ (need fault.NoIdent s.current_set) _ (λ _. after_need _ fault.CardUnknown (place_of card s.library) _ (λ p at.
-    after_any _ (refuse_if (p.deck == 0) fault.YankText) _ (λ _. after_any _ (refuse_if (is_deck_card p) fault.DeckCard) _ (λ _.
-    same_names out s _ refl refl (deck_kept out s.library card p lacks at)))))
-
-switched_keeps : (out : ℕ → Bool) (active : Bool) (first last : CardRef) (s : State) → IsNotIn (left_out out s.library) s.library first
-    → IsNotIn (left_out out s.library) s.library last → IfOk (switched active first last s) (Keeps out s)
-switched_keeps out active first last s lacks lacked =
-    after_any _ (need fault.NoIdent s.current_set) _ (λ current_set. after_need _ fault.CardUnknown (place_of first s.library) _ (λ p from.
-    after_need _ fault.CardUnknown (place_of last s.library) _ (λ q to.
-    after_any _ (refuse_if (not (p.deck == q.deck) || ltb q.index p.index) fault.RangeOrder) _ (λ _.
-    after_any _ (refuse_if (is_deck_card p) fault.DeckCard) _ (λ _.
-    let e : Entry = record { ident = current_set.ident; active = active } in
-    after_grown _ (with_entries p.deck p.index q.index e s.library) _ (same_names out s _
-    (with_cards_left out p.deck (entered_range p.index q.index e) s.library (deck_kept out s.library first p lacks from))
-    (idents-with_entries p.deck p.index q.index e s.library) (deck_kept out s.library last q lacked to)))))))
-
-text_keeps : (out : ℕ → Bool) (text : List ℕ) (s : State) (insert_point : InsertPoint) → SpotStays out insert_point → SpotStays out s.insert_point → IfOk (text_put text insert_point s) (Keeps out s)
-text_keeps out text s Nowhere stays here = tt
-text_keeps out text s (End d next) stays here =
-    after_grown _ (with_card d 0 (new_card d next text []) s.library) _ (same_names out s _
-    (with_cards_left out d (λ cards. insert cards (length cards - 0) (new_card d next text [])) s.library stays)
-    (idents-with_card d 0 _ s.library) stays)
-text_keeps out text s (Inside d after) stays here =
-    after_any _ (need fault.TextNowhere s.current_set) _ (λ current_set. after_any _ (refuse_if (d == 0) fault.YankText) _ (λ _.
-    after_grown _ (with_card d after (new_card current_set.ident current_set.next text []) s.library) _ (same_names out s _
-    (with_cards_left out d (λ cards. insert cards (length cards - after) (new_card current_set.ident current_set.next text [])) s.library stays)
-    (idents-with_card d after _ s.library) here)))
-
-done_keeps : (out : ℕ → Bool) (item : ItemView) (text : List ℕ) (s : State) → Leaves out s → AreOfListed (left_out out s.library) s.library
-    → is_plain_item item ≡ true
-    → AllByRecursion (IsNotIn (left_out out s.library) s.library) (cards_of_item item) → IfOk (line_done item text s) (Keeps out s)
-done_keeps out Text text s leaves old plain lacks = text_keeps out text s s.insert_point leaves.insert_point leaves.insert_point
-done_keeps out (Call name) text s leaves old plain lacks = text_keeps out text s s.insert_point leaves.insert_point leaves.insert_point
-done_keeps out (Ident name) text s leaves old plain lacks = set_keeps out name s old
-done_keeps out (Deck name) text s leaves old plain lacks = deck_keeps out name kind.Deck false text s old (leaves.fresh (next_age s.library) (omega arith))
-done_keeps out (CommonDeck name noprop) text s leaves old plain lacks =
-    deck_keeps out name kind.Common noprop text s old (leaves.fresh (next_age s.library) (omega arith))
-done_keeps out (Insert card) text s leaves old plain lacks = after_keeps out card s lacks.0
-done_keeps out (Before card) text s leaves old plain lacks = before_keeps out card s lacks.0
-done_keeps out (Delete first last) text s leaves old plain lacks = switched_keeps out false first last s lacks.0 lacks.1.0
-done_keeps out (Restore first last) text s leaves old plain lacks = switched_keeps out true first last s lacks.0 lacks.1.0
-done_keeps out (Yank ranges) text s leaves old plain lacks = absurd (cc)
-done_keeps out (SelYank pairs) text s leaves old plain lacks = absurd (cc)
-done_keeps out (YankDeck names) text s leaves old plain lacks = absurd (cc)
-done_keeps out (Purge ranges) text s leaves old plain lacks = absurd (cc)
-done_keeps out (PurgeFrom name) text s leaves old plain lacks = absurd (cc)
-done_keeps out (SelPurge pairs) text s leaves old plain lacks = absurd (cc)
-done_keeps out (PurDeck ranges) text s leaves old plain lacks = absurd (cc)
-done_keeps out (Compile ranges) text s leaves old plain lacks = same_names out s s refl refl leaves.insert_point
+step_keeps : (out : ℕ → Bool) (line : LineView) (s : State) → Leaves out s → AreOfListed (left_out out s.library) s.library
+    → is_plain_item line.item ≡ true → AllByRecursion (IsNotIn (left_out out s.library) s.library) (cards_of_item line.item)
+    → IfOk (step line s) (Keeps out s)
+step_keeps out line s leaves old plain lacks = of_each (Keeps out s) line.item line.text s (λ e fits within.
+    edit_keeps out s e (misses out line.item line.text s e fits leaves plain lacks) leaves old)
 
 -- ---- lines one after the other
 
@@ -191,8 +145,8 @@ pub runs : (out : ℕ → Bool) (lines : List LineView) (s : State) → Leaves o
 runs out [] s leaves old plain lacks = record { same = λ yanks. refl; left = refl }
 runs out (line ∷ lines) s leaves old plain lacks =
     let both = and_parts (is_plain_item line.item) (is_plain lines) plain in
-    go (step line s) refl (λ yanks. done_same out line.item line.text s yanks leaves both.0 lacks.0)
-    (done_keeps out line.item line.text s leaves old both.0 lacks.0)
+    go (step line s) refl (λ yanks. step_same out line s yanks leaves both.0 lacks.0)
+    (step_keeps out line s leaves old both.0 lacks.0)
     (λ t k. runs out lines t (leaves_more out s t leaves k) (listed_more out s t old k) both.1 (lines_more out s t lines k lacks.1))
   where
     on : Result State FaultKind → Result State Fault

@@ -1,5 +1,5 @@
 -- The row changes and touched cards of a plain run on a part are those on the whole.
-use Rattle.std.proofs.Common.{◌≡◌, ℕ, suc, ◌≤◌, Bool, true, false, not, ◌&&◌, List, [], ◌∷◌, ◌++◌, map, length, Result, Ok, Err, refl, sym, ap, ◌∙◌, subst, arith}
+use Rattle.std.proofs.Common.{◌≡◌, ℕ, suc, ◌≤◌, Bool, true, false, not, ◌&&◌, ◌||◌, List, [], ◌∷◌, ◌++◌, map, length, Result, Ok, Err, refl, sym, ap, ◌∙◌, subst, arith}
 use Rattle.std.proofs.lemmas.Bool.Decides.{nat_tests}
 use Rattle.std.proofs.lemmas.Result.{IfOk-at_ok}
 use Rattle.std.specs.Prelude.{◌==◌, nat_le, slice_get, Some}
@@ -20,9 +20,10 @@ use Rattle.upd_diff.specs.CardDiffs.{Paired}
 use Rattle.upd_diff.specs.RowChanges.{RowChanges}
 use Rattle.upd_diff.specs.Touched.{same_history, stood_in, touched, touched_in}
 use Rattle.upd_diff.proofs.StateLemmas.{any_of}
-use Rattle.upd_deck.specs.Items.{ItemView, LineView, Purge, PurgeFrom, SelPurge, PurDeck}
+use Rattle.upd_deck.specs.Items.{LineView}
 use Rattle.upd_apply.specs.Applying.{Reached, applied}
-use Rattle.upd_laws.specs.PurgingBack.{DecksGoOn, is_purge, purges_nothing}
+use Rattle.upd_apply.specs.Directives.{is_purge, is_yank}
+use Rattle.upd_laws.specs.PurgingBack.{DecksGoOn, purges_nothing}
 use Rattle.upd_laws.proofs.BackLibraryLemmas.{Grows}
 use Rattle.upd_laws.proofs.BackStepLemmas.{all_applied_grows}
 use Rattle.upd_laws.proofs.SoundListLemmas.{all_filter, all_weaker, and_left, and_right, both, is_same_number}
@@ -34,17 +35,14 @@ use Rattle.upd_partial.proofs.WeaveLemmas.{AreFew, StandFirst, each_few, same_en
 
 -- ---- plain runs keep the decks, in order
 
-no_purge : (item : ItemView) → is_plain_item item ≡ true → not (is_purge item) ≡ true
-no_purge (Purge ranges) plain = absurd (cc)
-no_purge (PurgeFrom name) plain = absurd (cc)
-no_purge (SelPurge pairs) plain = absurd (cc)
-no_purge (PurDeck ranges) plain = absurd (cc)
-no_purge _ plain = refl
+no_purge : (a b : Bool) → not (a || b) ≡ true → not b ≡ true
+no_purge false b plain = plain
+no_purge true b plain = absurd (cc)
 
 pub no_purges : (lines : List LineView) → is_plain lines ≡ true → purges_nothing lines ≡ true
 no_purges [] plain = refl
 no_purges (line ∷ lines) plain =
-    both (not (is_purge line.item)) (purges_nothing lines) (no_purge line.item (and_left (is_plain_item line.item) _ plain))
+    both (not (is_purge line.item)) (purges_nothing lines) (no_purge (is_yank line.item) (is_purge line.item) (and_left (is_plain_item line.item) _ plain))
     (no_purges lines (and_right (is_plain_item line.item) (is_plain lines) plain))
 
 first_of_on : (P : ℕ → Type 0) (ds es : List DeckView) → DecksGoOn P ds es → StandFirst ds es

@@ -1,5 +1,5 @@
 -- The decks that a run needs of a library.
-use Rattle.std.specs.Prelude.{◌==◌, Bool, false, not, ◌&&◌, if◌then◌else◌, List, map}
+use Rattle.std.specs.Prelude.{◌≡◌, ◌==◌, Bool, false, not, ◌&&◌, if◌then◌else◌, List, map}
 use Rattle.std.specs.List.{flat_map, list_any}
 use Rattle.std.specs.Option.{option_map_or}
 use Rattle.upd_text.specs.declared.card_ref.CardRef.{CardRef}
@@ -12,6 +12,10 @@ use Rattle.upd_partial.specs.Needless.{is_plain, cards_of_item}
 -- the cards that the lines of a run name, in order
 abbrev pub cards_named : List LineView → List CardRef
 cards_named lines = flat_map (λ line. cards_of_item line.item) lines
+
+-- two lists have the same cards, whatever their order and however often: some card of the one passes a test where some of the other does
+abbrev pub AreAlike : List CardRef → List CardRef → Type 0
+AreAlike cards others = (test : CardRef → Bool) → list_any test cards ≡ list_any test others
 
 -- whether a reference names a yank card
 abbrev pub is_yank_card : LibraryView → CardRef → Bool

@@ -1,40 +1,27 @@
 -- Runs on a part of a library: the decks that a run doesn't need.
-use Rattle.std.specs.Prelude.{◌≡◌, ◌==◌, ◌<◌, nat_le, Bool, true, false, not, ◌&&◌, IsTrue, List, [], ◌∷◌, length, Some, Result, Ok, Err}
+use Rattle.std.specs.Prelude.{◌≡◌, ◌==◌, ◌<◌, nat_le, Bool, false, not, ◌&&◌, ◌||◌, IsTrue, List, length, Some, Result, Ok, Err}
 use Rattle.std.specs.List.{filter, list_all, AllByRecursion}
-use Rattle.upd_text.specs.declared.card_ref.CardRef.{CardRef}
 use Rattle.upd_text.specs.declared.fault.Fault.{Fault}
 use Rattle.upd_core.specs.Serials.{Serial}
 use Rattle.upd_core.specs.declared.library.Place.{Place}
 use Rattle.upd_core.specs.Edits.{is_among}
 use Rattle.upd_core.specs.Library.{DeckView, LibraryView, all_decks, place_of}
-use Rattle.upd_deck.specs.Items.{ItemView, LineView, Insert, Before, Delete, Restore, Yank, SelYank, YankDeck, Purge, PurgeFrom, SelPurge, PurDeck}
+use Rattle.upd_deck.specs.Items.{ItemView, LineView}
 use Rattle.upd_records.specs.Changes.{ChangeView}
 use Rattle.upd_diff.specs.RowChanges.{RowChanges}
 use Rattle.upd_apply.specs.Applying.{Reached, applied, touched}
+use Rattle.upd_apply.specs.Directives.{is_purge, is_yank}
+-- the cards that a line names
+pub use Rattle.upd_apply.specs.Directives.{cards_of_item}
 use Rattle.upd_core.specs.Parts.{part}
 
 -- whether a line neither yanks nor purges
 abbrev pub is_plain_item : ItemView → Bool
-is_plain_item (Yank ranges) = false
-is_plain_item (SelYank pairs) = false
-is_plain_item (YankDeck names) = false
-is_plain_item (Purge ranges) = false
-is_plain_item (PurgeFrom name) = false
-is_plain_item (SelPurge pairs) = false
-is_plain_item (PurDeck ranges) = false
-is_plain_item _ = true
+is_plain_item item = not (is_yank item || is_purge item)
 
 -- a run is plain: no line of it yanks or purges
 abbrev pub is_plain : List LineView → Bool
 is_plain lines = list_all (λ line. is_plain_item line.item) lines
-
--- the cards that a line names
-abbrev pub cards_of_item : ItemView → List CardRef
-cards_of_item (Insert card) = card ∷ []
-cards_of_item (Before card) = card ∷ []
-cards_of_item (Delete first last) = first ∷ last ∷ []
-cards_of_item (Restore first last) = first ∷ last ∷ []
-cards_of_item _ = []
 
 -- the serials of a directory that are not among these: those of the decks that a part with only these decks leaves out
 abbrev pub is_left_out : List Serial → LibraryView → Serial → Bool

@@ -2,13 +2,16 @@
 
 ghost use Rattle.std.specs.Prelude.{◌≡◌, ◌++◌, IfOk, OnOk};
 ghost use Rattle.std.specs.List.{list_any};
+ghost use Rattle.std.specs.List.Sorted.{IsStrictlySortedBy};
+ghost use Rattle.upd_text.specs.Order.{by_name};
 ghost use Rattle.upd_deck.specs.LineFields.{seen};
-ghost use Rattle.upd_partial.specs.Needed.{cards_named, is_yank_card};
+ghost use Rattle.upd_partial.specs.Needed.{AreAlike, cards_named, is_yank_card};
 ghost use Rattle.upd_partial.specs.Needless.{cards_of_item, is_plain, is_plain_item};
 
 use std::alloc::{AllocError, Global};
 use upd_core::Library;
 use upd_deck::{Item, Run};
+use upd_row_store::cards_once;
 use upd_text::CardRef;
 
 /// Whether no line of a run yanks or purges.
@@ -33,8 +36,18 @@ fn is_plain_item(item: &Item) -> bool
     }
 }
 
-/// The cards that the lines of a run name, in order. A card may be listed more than once.
+/// The cards that the lines of a run name, by name, each once.
 pub fn cards_named(alloc: Global, run: &Run<'_>) -> Result<Vec<CardRef>, AllocError>
+    ensures order { IfOk result (λ cards. IsStrictlySortedBy by_name cards.items) }
+    ensures same { IfOk result (λ cards. AreAlike cards.items (cards_named run.now)) }
+{
+    let named = cards_by_line(alloc, run)?;
+    let cards = cards_once(alloc, &named)?;
+    Ok(cards)
+}
+
+/// The same in the order of the lines, as often as they name them.
+fn cards_by_line(alloc: Global, run: &Run<'_>) -> Result<Vec<CardRef>, AllocError>
     ensures { IfOk result (λ cards. cards.items ≡ cards_named run.now) }
 {
     let mut cards = Vec::new(alloc);

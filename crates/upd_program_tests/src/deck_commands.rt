@@ -137,7 +137,7 @@ fn a_run_that_is_tried_is_not_stored(rt: HostRuntime) -> Result<(), Fail> {
             WARNED,
         ),
         Step::Answers("try", &["quick"], "HELLO\n", (1, NOWHERE, "")),
-        Step::Answers("try", &["slow"], "", (1, BAD_MODE, "")),
+        Step::Answers("try", &["slow"], "HELLO\n", (1, BAD_MODE, "")),
         Step::Writes("idents", &[], IDENTS),
     ];
     session(&rt, "tried", STEPS)

@@ -18,6 +18,8 @@ mod file_sessions;
 #[cfg(test)]
 mod kept_rows;
 #[cfg(test)]
+mod large_purges;
+#[cfg(test)]
 mod library_copies;
 #[cfg(test)]
 mod library_files;

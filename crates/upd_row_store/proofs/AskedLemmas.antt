@@ -1,18 +1,25 @@
--- Cards that are asked for, as sets in order, and the statuses of these cards alone.
+-- Cards that are asked for, as sets and lists in order, and the statuses of these cards alone.
 use Rattle.std.proofs.Common.{◌≡◌, ℕ, ◌+◌, ◌<◌, Bool, true, false, ◌||◌, cond, List, [], ◌∷◌, ◌++◌, length, get_or, map, take}
 use Rattle.std.proofs.Common.{refl, ap, sym, subst, ◌∙◌}
 use Rattle.std.proofs.lemmas.List.{take_more}
 use Rattle.std.specs.BTreeSet as sorted
 use Rattle.std.specs.BTreeSet.{BTreeSet}
-use Rattle.std.specs.List.{filter, list_any}
+use Rattle.std.specs.List.{dedup, filter, list_any}
+use Rattle.std.specs.List.Sorted.{IsPermutation, IsSorted, IsStrictlySortedBy}
+use Rattle.std.specs.Cmp.{IsTotalOrder}
+use Rattle.std.proofs.lemmas.Cmp.{nat_cmp_total, nat_list_cmp_total, on_total, then_total}
+use Rattle.std.proofs.lemmas.List.Kept.{IsStrictlySortedBy-dedup}
+use Rattle.std.proofs.lemmas.List.Sorted.{list_any-IsPermutation}
 use Rattle.std.specs.Ordering.{is_eq}
 use Rattle.upd_text.specs.declared.card_ref.CardRef.{CardRef}
-use Rattle.upd_text.specs.Order.{by_name}
+use Rattle.upd_text.specs.Order.{by_name, is_same_reference}
 use Rattle.upd_text.proofs.OrderLemmas.{is_same-is_eq}
 use Rattle.upd_records.proofs.EffectLemmas.{any_append}
+use Rattle.upd_records.proofs.EqualLemmas.{same_ref_is}
 use Rattle.upd_records.specs.Rows.{IsSame, Rows, same_ref}
 use Rattle.upd_row_store.specs.Asked.{is_asked}
 use Rattle.upd_row_store.specs.Tables.{state_pair}
+use Rattle.upd_row_store.proofs.HolderLemmas.{any_once}
 
 -- the cards that are asked for, as a set in order
 abbrev pub IsSetOf : List CardRef → BTreeSet CardRef → Type 0
@@ -67,3 +74,17 @@ states_kept cards set rows all kept of same is =
     subst (λ l. IsSame l (map state_pair (filter (λ r. is_asked cards r.card) rows.states)))
     (sym (is ∙ filter_each (λ (p : CardRef × Bool). sorted.contains by_name set p.0) (λ p. is_asked cards p.0) (λ p. of p.0) all))
     (subst (IsSame (filter (λ p. is_asked cards p.0) all)) (filter_made (λ p. is_asked cards p.0) state_pair rows.states) same)
+
+-- ---- each card once
+
+refs_total : IsTotalOrder by_name
+refs_total = then_total (on_total (λ c. c.name) nat_list_cmp_total) (on_total (λ c. c.number) nat_cmp_total)
+
+pub once_in_order : (sorted once : List CardRef) → IsSorted by_name sorted → once ≡ dedup is_same_reference sorted
+    → IsStrictlySortedBy by_name once
+once_in_order sorted once up is = subst (IsStrictlySortedBy by_name) (sym is) (IsStrictlySortedBy-dedup refs_total is_same-is_eq sorted up)
+
+pub once_same : (test : CardRef → Bool) (cards sorted once : List CardRef) → IsPermutation cards sorted → once ≡ dedup is_same_reference sorted
+    → list_any test once ≡ list_any test cards
+once_same test cards sorted once moved is =
+    ap (list_any test) is ∙ any_once is_same_reference same_ref_is test sorted ∙ sym (list_any-IsPermutation test cards sorted moved)

@@ -14,7 +14,7 @@ use Rattle.upd_core.specs.Sound.{AreRising, IsSound}
 use Rattle.upd_records.proofs.CountLemmas.{count_cons}
 use Rattle.upd_records.proofs.EffectLemmas.{any_append}
 use Rattle.upd_records.specs.Rows.{CardRow, IsSame, Rows, Shows, card_rows}
-use Rattle.upd_row_store.specs.Asked.{AreDecksOf, decks_with, holds_one, is_asked}
+use Rattle.upd_row_store.specs.Asked.{AreDecksOf, are_in_yanks, decks_with, holds_one, is_asked}
 use Rattle.upd_row_store.proofs.SortLemmas.{same_permuted, weaker}
 
 -- ---- rising numbers
@@ -97,25 +97,28 @@ among_but_none (x ∷ xs) d = go (x == 0) (d == 0) (x == d) refl refl refl (amon
     go false true false some none other later = rw other later
     go false false c some some_d same later = rw (same, later) refl
 
-among_from : (k : ℕ) (xs : List ℕ) (d : ℕ) → is_among (dedup_from (λ a b. a == b) k xs) d ≡ ((k == d) || is_among xs d)
-among_from k [] d = refl
-among_from k (x ∷ xs) d = go (x == k) refl (among_from k xs d) (among_from x xs d)
-  where
-    twice : (a b : Bool) → (a || b) ≡ (a || (a || b))
-    twice true b = refl
-    twice false b = refl
+-- what some of a list pass some of it pass where each stands once
+module _ {A : Type 0} (eq : A → A → Bool) (exact : (x y : A) → eq x y ≡ true → x ≡ y) (p : A → Bool) where
+  any_from : (k : A) (xs : List A) → list_any p (dedup_from eq k xs) ≡ (p k || list_any p xs)
+  any_from k [] = refl
+  any_from k (x ∷ xs) = go (eq x k) refl (any_from k xs) (any_from x xs)
+    where
+      twice : (a b : Bool) → (a || b) ≡ (a || (a || b))
+      twice true b = refl
+      twice false b = refl
 
-    go : (b : Bool) → (x == k) ≡ b → is_among (dedup_from (λ a c. a == c) k xs) d ≡ ((k == d) || is_among xs d)
-        → is_among (dedup_from (λ a c. a == c) x xs) d ≡ ((x == d) || is_among xs d)
-        → is_among (cond b (dedup_from (λ a c. a == c) k xs) (k ∷ dedup_from (λ a c. a == c) x xs)) d ≡ ((k == d) || ((x == d) || is_among xs d))
-    go true e of_k of_x =
-        let is : x ≡ k = (Decides-eqb x k).0 e in
-        of_k ∙ twice (k == d) (is_among xs d) ∙ ap (λ y. (k == d) || ((y == d) || is_among xs d)) (sym is)
-    go false e of_k of_x = ap (λ b. (k == d) || b) of_x
+      go : (b : Bool) → eq x k ≡ b → list_any p (dedup_from eq k xs) ≡ (p k || list_any p xs)
+          → list_any p (dedup_from eq x xs) ≡ (p x || list_any p xs)
+          → list_any p (cond b (dedup_from eq k xs) (k ∷ dedup_from eq x xs)) ≡ (p k || (p x || list_any p xs))
+      go true e of_k of_x = of_k ∙ twice (p k) (list_any p xs) ∙ ap (λ y. p k || (p y || list_any p xs)) (sym (exact x k e))
+      go false e of_k of_x = ap (λ b. p k || b) of_x
+
+  pub any_once : (xs : List A) → list_any p (dedup eq xs) ≡ list_any p xs
+  any_once [] = refl
+  any_once (x ∷ xs) = any_from x xs
 
 among_once : (xs : List ℕ) (d : ℕ) → is_among (dedup (λ a b. a == b) xs) d ≡ is_among xs d
-among_once [] d = refl
-among_once (x ∷ xs) d = among_from x xs d
+among_once xs d = any_once (λ a b. a == b) (λ a b. (Decides-eqb a b).0) (λ a. a == d) xs
 
 -- ages without 0, sorted, and then each once
 pub once_by_age : (ages sorted once : List ℕ) → IsPermutation (filter (λ x. not (x == 0)) ages) sorted → IsSorted nat_cmp sorted
@@ -208,6 +211,19 @@ decks_found cards rows l ages once sound shown of are =
     rising_same once (decks_with cards l) are.0 (ages_rising (holds_one cards l.idents) l.decks sound.deck_ages.1)
     (λ d. are.1 d ∙ ap (λ b. not (d == 0) && b) (of d ∙ any_same (is_found cards l.idents d) shown.cards ∙ found_in_decks cards l.idents d (all_decks l))
     ∙ but_yanks cards l sound d)
+
+-- `YANK$$$` holds none of them where 0 is none of these ages
+pub none_in_yanks : (cards : List CardRef) (rows : Rows) (l : LibraryView) (ages : List ℕ) → Shows rows l → AreDecksOf cards rows.cards ages
+    → is_among ages 0 ≡ false → are_in_yanks cards l ≡ false
+none_in_yanks cards rows l ages shown of none =
+    go (are_in_yanks cards l) (sym (of 0 ∙ any_same (is_found cards l.idents 0) shown.cards ∙ found_in_decks cards l.idents 0 (all_decks l)) ∙ none)
+  where
+    rest : List DeckView
+    rest = filter (holds_one cards l.idents) l.decks
+
+    go : (b : Bool) → is_among (map (λ e. e.ident) (cond b (record { ident = 0; cards = l.yanks } ∷ rest) rest)) 0 ≡ false → b ≡ false
+    go true some = absurd (cc)
+    go false some = refl
 
 -- the decks of all rows of these cards
 ages_are : (cards : List CardRef) (rows : List CardRow) → AreDecksOf cards rows (map (λ r. r.deck) (filter (λ r. is_asked cards r.card) rows))

@@ -1,11 +1,12 @@
 -- Which decks hold cards that a store is asked for.
-use Rattle.std.specs.Prelude.{◌≡◌, ℕ, ◌==◌, Bool, ◌&&◌, List, map}
+use Rattle.std.specs.Prelude.{◌≡◌, ℕ, ◌==◌, Bool, false, ◌&&◌, List, map}
 use Rattle.std.specs.List.{filter, list_any}
 use Rattle.upd_text.specs.declared.card_ref.CardRef.{CardRef}
 use Rattle.upd_core.specs.Edits.{is_among}
 use Rattle.upd_core.specs.declared.ident.Ident.{Ident}
 use Rattle.upd_core.specs.Library.{DeckView, LibraryView, ref_of}
 use Rattle.upd_records.specs.Rows.{CardRow, same_ref}
+use Rattle.upd_row_store.specs.declared.asked.Homes.{Homes}
 
 -- whether a card is one of those that are asked for
 abbrev pub is_asked : List CardRef → CardRef → Bool
@@ -18,6 +19,15 @@ holds_one cards idents d = list_any (λ c. is_asked cards (ref_of idents c)) d.c
 -- the ages of the decks other than `YANK$$$` that hold one of them, by age, each once
 abbrev pub decks_with : List CardRef → LibraryView → List ℕ
 decks_with cards l = map (λ d. d.ident) (filter (holds_one cards l.idents) l.decks)
+
+-- whether `YANK$$$` holds one of them
+abbrev pub are_in_yanks : List CardRef → LibraryView → Bool
+are_in_yanks cards l = list_any (λ c. is_asked cards (ref_of l.idents c)) l.yanks
+
+-- The homes of cards: the decks that hold one of them, and whether one may be in `YANK$$$`: where none may be, none is.
+pub record AreHomes (cards : List CardRef) (l : LibraryView) (homes : Homes) : Type 0 where
+  pub decks : homes.decks.items ≡ decks_with cards l
+  pub yanks : homes.may_be_yanks ≡ false → are_in_yanks cards l ≡ false
 
 -- These ages, in whatever order, are those of the decks in the rows of the cards that are asked for, 0 for `YANK$$$` among them.
 abbrev pub AreDecksOf : List CardRef → List CardRow → List ℕ → Type 0

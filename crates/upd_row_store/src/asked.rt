@@ -1,13 +1,14 @@
 //! What stores answer, whatever they keep their rows in.
-ghost use Rattle.std.specs.Prelude.{◌≡◌, IfOk, List, map};
+ghost use Rattle.std.specs.Prelude.{◌≡◌, Bool, IfOk, List, map};
 ghost use Rattle.std.specs.BTreeSet as sorted;
-ghost use Rattle.std.specs.List.{filter};
+ghost use Rattle.std.specs.List.{filter, list_any};
+ghost use Rattle.std.specs.List.Sorted.{IsStrictlySortedBy};
 ghost use Rattle.upd_text.specs.Order.{by_name};
 ghost use Rattle.upd_text.specs.declared.card_ref.CardRef.{CardRef};
 ghost use Rattle.upd_core.specs.Library.{LibraryView};
 ghost use Rattle.upd_core.specs.Sound.{IsSound};
 ghost use Rattle.upd_records.specs.Rows.{Rows, Shows};
-ghost use Rattle.upd_row_store.specs.Asked.{AreDecksOf, decks_with, is_asked};
+ghost use Rattle.upd_row_store.specs.Asked.{AreDecksOf, AreHomes, decks_with, is_asked};
 ghost use Rattle.upd_row_store.specs.Keeping.{reads_with};
 ghost use Rattle.upd_row_store.specs.Tables.{AreByKey, AreRead, AreReadOf};
 
@@ -15,6 +16,15 @@ use std::alloc::{AllocError, Global};
 use std::collections::BTreeSet;
 use upd_core::{CardRef, Library, Serial, States};
 use upd_records::{CardRow, same_ref};
+
+/// Where cards are.
+#[derive(Debug, Drop)]
+pub struct Homes {
+    /// The decks other than `YANK$$$` that hold one of them, by age, each once.
+    pub decks: Vec<Serial>,
+    /// Whether one of them may be in `YANK$$$`. A store that doesn't look there says yes.
+    pub may_be_yanks: bool,
+}
 
 /// How many decks are read with one more library; it stops at the last value.
 pub fn reads_with(reads: u64, library: &Library) -> u64
@@ -57,6 +67,29 @@ pub fn decks_by_age(ages: Vec<Serial>) -> Vec<Serial>
     ages.sort_unstable();
     ages.dedup();
     ages
+}
+
+/// The same, and whether `YANK$$$` is among them.
+pub fn homes_by_age(ages: Vec<Serial>) -> Homes
+    ensures { (cards : List CardRef) (rows : Rows) (l : LibraryView) → IsSound l → Shows rows l
+        → AreDecksOf cards rows.cards ages.items → AreHomes cards l result }
+{
+    let may_be_yanks = ages.contains(&0);
+    Homes {
+        decks: decks_by_age(ages),
+        may_be_yanks,
+    }
+}
+
+/// These cards by name, each once. Cards of a deck mostly come in a few runs by name, which a stable sort joins.
+pub fn cards_once(alloc: Global, cards: &[CardRef]) -> Result<Vec<CardRef>, AllocError>
+    ensures order { IfOk result (λ once. IsStrictlySortedBy by_name once.items) }
+    ensures same { IfOk result (λ once. (test : CardRef → Bool) → list_any test once.items ≡ list_any test cards.now) }
+{
+    let mut once = Vec::from_slice(alloc, cards)?;
+    once.sort()?;
+    once.dedup();
+    Ok(once)
 }
 
 /// These cards as a set; memory alone can fail.

@@ -11,7 +11,8 @@ pub mod store;
 
 pub use active::assembled_active;
 pub use asked::{
-    ages_of_decks, card_set, decks_by_age, keep_states, reads_with, states_among, states_by_key,
+    Homes, ages_of_decks, card_set, cards_once, decks_by_age, homes_by_age, keep_states,
+    reads_with, states_among, states_by_key,
 };
 pub use assemble::{age_of, assembled, assembled_part, assembled_with_rest, by_age, held_ages};
 pub use meaning::Meaning;

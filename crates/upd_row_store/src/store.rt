@@ -4,14 +4,14 @@ ghost use Rattle.upd_core.specs.Actives.{actives_of};
 ghost use Rattle.upd_records.specs.Changes.{change_view};
 ghost use Rattle.upd_records.specs.Rows.{Rows, ShowsStates};
 ghost use Rattle.upd_records.specs.Fits.{AllFit};
-ghost use Rattle.upd_row_store.specs.Asked.{decks_with};
+ghost use Rattle.upd_row_store.specs.Asked.{AreHomes, decks_with};
 ghost use Rattle.upd_row_store.specs.Assembling.{AreRowsOf};
 ghost use Rattle.upd_row_store.specs.Keeping.{FindsLibrary, FindsRows, IsShown, LeavesLoad, LeavesRead, LeavesWrite};
 ghost use Rattle.upd_row_store.specs.Movable.{AllMoveListed};
 ghost use Rattle.upd_core.specs.Parts.{part_of};
 ghost use Rattle.upd_row_store.specs.Tables.{AreByKey, AreRead, AreReadOf, committed, mark_at, run_at, settled_to};
 
-use crate::asked::states_among;
+use crate::asked::{Homes, states_among};
 use crate::meaning::Meaning;
 use std::alloc::Global;
 use std::collections::BTreeMap;
@@ -40,6 +40,19 @@ pub trait RowStore: Meaning {
         ensures found { FindsLibrary Self.Meaning result self.old self.new
             (λ l rows found. found.items ≡ decks_with cards.now l) }
         ensures leaves { LeavesRead Self.Meaning result self.old self.new };
+
+    /// The same decks, and whether one of these cards may be in `YANK$$$`: false only where none is.
+    fn homes_of(&mut self, alloc: Global, cards: &[CardRef]) -> Result<Homes, Fault>
+        ensures found { FindsLibrary Self.Meaning result self.old self.new
+            (λ l rows found. AreHomes cards.now l found) }
+        ensures leaves { LeavesRead Self.Meaning result self.old self.new }
+    {
+        let decks = self.decks_of(alloc, cards)?;
+        Ok(Homes {
+            decks,
+            may_be_yanks: true,
+        })
+    }
 
     /// The rows that make a library, in no order. A store without this call answers NoMemory: none is kept in memory.
     fn library_rows(&mut self, _: Global) -> Result<LibraryRows, Fault>

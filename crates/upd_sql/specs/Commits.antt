@@ -3,7 +3,7 @@ use Rattle.std.specs.Prelude.{◌≡◌, ℕ, length, Result, IsTrue, IfOk, OnOk
 use Rattle.std.specs.List.{AllZip}
 use Rattle.sqlite_trees.specs.Tree.{Trees}
 use Rattle.sqlite.specs.declared.error.Error.{Error}
-use Rattle.sqlite.specs.State.{State, HasCleanDisk}
+use Rattle.sqlite.specs.State.{State, HasCleanDisk, Survives}
 use Rattle.upd_text.specs.declared.card_ref.CardRef.{CardRef}
 use Rattle.upd_records.specs.Changes.{status_rows}
 use Rattle.upd_records.specs.Rows.{Rows}
@@ -51,3 +51,11 @@ pub record Looks {X : Type 0} (Found : Rows → X → Type 0) (old new : State) 
   pub was_open : WasOpen old new r
   pub same : LeavesTables old new r
   pub found : HasCleanDisk new → IfOk r (λ x. (it : Rows) → HoldsTables it old.now → Found it x)
+
+-- What a transaction that only reads does: where the schema is the library's it leaves the last commit, and what it finds is so of the tables of that commit.
+pub record ReadsTables {X : Type 0} (Found : Rows → X → Type 0) (old new : State) (r : Result X Error) : Type 0 where
+  pub was_open : HasCleanDisk new → IsTrue new.is_open → IsTrue old.is_open
+  pub opens : HasCleanDisk new → OnOk r (IsTrue old.is_open × IsTrue new.is_open)
+  pub kept : HasCleanDisk new → IsTrue new.is_open → old.committed.schema ≡ library_schema → new.committed ≡ old.committed
+  pub crash : Survives old new (MayKeep old)
+  pub found : HasCleanDisk new → IfOk r (λ x. (it : Rows) → ShowsTables it old.committed → Found it x)

@@ -12,7 +12,7 @@ use Rattle.upd_row_store.specs.PartRows.{AreOfDistinctCards, part_rows}
 use Rattle.upd_sql.specs.Sizes.{AreSizesOf}
 use Rattle.upd_sql.specs.Listed.{AreInOrder, in_any_order}
 use Rattle.upd_sql.specs.LibraryTables.{HoldsTables}
-use Rattle.upd_sql.specs.declared.active.ActiveRows.{ActiveRows}
+use Rattle.upd_sql.specs.declared.active_reads.ActiveRows.{ActiveRows}
 use Rattle.upd_sql.specs.declared.part.Part.{Part}
 
 -- What is read of tables for the decks of these ages: their rows, where no two rows are of one card, and the numbers of all cards and entries.

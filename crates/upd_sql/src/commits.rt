@@ -7,7 +7,7 @@ ghost use Rattle.upd_row_store.specs.Tables.{committed};
 ghost use Rattle.upd_sql.specs.Commits.{Commits, MayCommit};
 ghost use Rattle.upd_sql.specs.Doable.{AllCanBeDone};
 
-use crate::changes::carry_out_moving;
+use crate::row_writes::carry_out_moving;
 use crate::writes::insert_run;
 use sqlite::{Connection, Error};
 use std::collections::BTreeMap;

@@ -4,30 +4,30 @@
 //! tables, each is in a function of its own, whose contract says what the statement reads or changes.
 #![tactic(auto)]
 
-mod active;
-mod changes;
+mod active_reads;
 mod commits;
 mod decode;
 mod make;
 mod part;
 mod reads;
 mod record;
+mod row_writes;
 mod schema;
 mod settle;
 mod sizes;
-mod statuses;
+mod status_reads;
 mod stored;
 mod texts;
 mod values;
 mod whole;
 mod writes;
 
-pub use active::ActiveRows;
-pub use changes::carry_out_all;
+pub use active_reads::ActiveRows;
 pub use commits::commit_changes;
 pub use make::make_library;
 pub use part::Part;
 pub use record::{column_of, flag_in};
+pub use row_writes::carry_out_all;
 pub use schema::{has_first_tables, is_library_schema, is_no_schema};
 pub use settle::settle_site;
 pub use sizes::Sizes;

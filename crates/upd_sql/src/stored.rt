@@ -1,20 +1,16 @@
 //! What is stored, each read in a transaction of its own. An error is out of memory, a failure of the disk, or a file
 //! whose tables or rows are not a library's. None of these calls changes a table.
-ghost use Rattle.std.specs.Prelude.{◌≡◌, false, IfOk, IsTrue, OnOk};
+ghost use Rattle.std.specs.Prelude.{◌≡◌, false};
 ghost use Rattle.sqlite.specs.Held.{state};
-ghost use Rattle.sqlite.specs.State.{HasCleanDisk, Survives};
-ghost use Rattle.upd_records.specs.Rows.{Rows};
 ghost use Rattle.upd_row_store.specs.Tables.{AreByKey, AreRead, AreReadOf, mark_at, run_at};
-ghost use Rattle.upd_sql.specs.Commits.{MayKeep};
-ghost use Rattle.upd_sql.specs.Schema.{library_schema};
-ghost use Rattle.upd_sql.specs.LibraryTables.{ShowsTables};
+ghost use Rattle.upd_sql.specs.Commits.{ReadsTables};
 ghost use Rattle.upd_row_store.specs.Asked.{AreDecksOf};
 ghost use Rattle.upd_row_store.specs.Assembling.{AreRowsOf};
 ghost use Rattle.upd_sql.specs.Part.{AreActiveRows, IsPart};
 
-use crate::active::ActiveRows;
+use crate::active_reads::ActiveRows;
 use crate::part::Part;
-use crate::{active, part, reads, statuses, whole};
+use crate::{active_reads, part, reads, status_reads, whole};
 use sqlite::{Connection, Error};
 use std::alloc::Global;
 use upd_core::{CardRef, Serial, States};
@@ -25,16 +21,8 @@ use upd_sqlite::{Rising, begin};
 pub fn stored_mark<S: Rising>(conn: &mut Connection<S>, site: &str) -> Result<u64, Error>
     requires { conn.old.in_transaction ≡ false }
     ensures outside { conn.new.in_transaction ≡ false }
-    ensures was_open { HasCleanDisk (state S.Store conn.new) → IsTrue (state S.Store conn.new).is_open
-        → IsTrue (state S.Store conn.old).is_open }
-    ensures open { HasCleanDisk (state S.Store conn.new) → OnOk result (IsTrue (state S.Store conn.old).is_open
-        × IsTrue (state S.Store conn.new).is_open) }
-    ensures kept { HasCleanDisk (state S.Store conn.new) → IsTrue (state S.Store conn.new).is_open
-        → (state S.Store conn.old).committed.schema ≡ library_schema
-        → (state S.Store conn.new).committed ≡ (state S.Store conn.old).committed }
-    ensures crash { Survives (state S.Store conn.old) (state S.Store conn.new) (MayKeep (state S.Store conn.old)) }
-    ensures found { HasCleanDisk (state S.Store conn.new) → IfOk result (λ mark. (it : Rows)
-        → ShowsTables it (state S.Store conn.old).committed → mark ≡ mark_at site.now it) }
+    ensures reads { ReadsTables (λ it mark. mark ≡ mark_at site.now it)
+        (state S.Store conn.old) (state S.Store conn.new) result }
 {
     let mut tx = begin(conn);
     let mark = reads::mark_in(&mut tx, site)?;
@@ -50,16 +38,8 @@ pub fn stored_run<S: Rising>(
 ) -> Result<Option<RunRow>, Error>
     requires { conn.old.in_transaction ≡ false }
     ensures outside { conn.new.in_transaction ≡ false }
-    ensures was_open { HasCleanDisk (state S.Store conn.new) → IsTrue (state S.Store conn.new).is_open
-        → IsTrue (state S.Store conn.old).is_open }
-    ensures open { HasCleanDisk (state S.Store conn.new) → OnOk result (IsTrue (state S.Store conn.old).is_open
-        × IsTrue (state S.Store conn.new).is_open) }
-    ensures kept { HasCleanDisk (state S.Store conn.new) → IsTrue (state S.Store conn.new).is_open
-        → (state S.Store conn.old).committed.schema ≡ library_schema
-        → (state S.Store conn.new).committed ≡ (state S.Store conn.old).committed }
-    ensures crash { Survives (state S.Store conn.old) (state S.Store conn.new) (MayKeep (state S.Store conn.old)) }
-    ensures found { HasCleanDisk (state S.Store conn.new) → IfOk result
-        (λ run. (it : Rows) → ShowsTables it (state S.Store conn.old).committed → run ≡ run_at site.now number it) }
+    ensures reads { ReadsTables (λ it run. run ≡ run_at site.now number it)
+        (state S.Store conn.old) (state S.Store conn.new) result }
 {
     let mut tx = begin(conn);
     let run = reads::run_in(&mut tx, site, number)?;
@@ -74,16 +54,8 @@ pub fn stored_library_rows<S: Rising>(
 ) -> Result<LibraryRows, Error>
     requires { conn.old.in_transaction ≡ false }
     ensures outside { conn.new.in_transaction ≡ false }
-    ensures was_open { HasCleanDisk (state S.Store conn.new) → IsTrue (state S.Store conn.new).is_open
-        → IsTrue (state S.Store conn.old).is_open }
-    ensures open { HasCleanDisk (state S.Store conn.new) → OnOk result (IsTrue (state S.Store conn.old).is_open
-        × IsTrue (state S.Store conn.new).is_open) }
-    ensures kept { HasCleanDisk (state S.Store conn.new) → IsTrue (state S.Store conn.new).is_open
-        → (state S.Store conn.old).committed.schema ≡ library_schema
-        → (state S.Store conn.new).committed ≡ (state S.Store conn.old).committed }
-    ensures crash { Survives (state S.Store conn.old) (state S.Store conn.new) (MayKeep (state S.Store conn.old)) }
-    ensures found { HasCleanDisk (state S.Store conn.new) → IfOk result
-        (λ found. (it : Rows) → ShowsTables it (state S.Store conn.old).committed → AreRowsOf it found) }
+    ensures reads { ReadsTables (λ it found. AreRowsOf it found)
+        (state S.Store conn.old) (state S.Store conn.new) result }
 {
     let mut tx = begin(conn);
     let found = whole::library_rows_in(&mut tx, alloc)?;
@@ -95,18 +67,8 @@ pub fn stored_library_rows<S: Rising>(
 pub fn stored_states<S: Rising>(conn: &mut Connection<S>, alloc: Global) -> Result<States, Error>
     requires { conn.old.in_transaction ≡ false }
     ensures outside { conn.new.in_transaction ≡ false }
-    ensures was_open { HasCleanDisk (state S.Store conn.new) → IsTrue (state S.Store conn.new).is_open
-        → IsTrue (state S.Store conn.old).is_open }
-    ensures open { HasCleanDisk (state S.Store conn.new) → OnOk result (IsTrue (state S.Store conn.old).is_open
-        × IsTrue (state S.Store conn.new).is_open) }
-    ensures kept { HasCleanDisk (state S.Store conn.new) → IsTrue (state S.Store conn.new).is_open
-        → (state S.Store conn.old).committed.schema ≡ library_schema
-        → (state S.Store conn.new).committed ≡ (state S.Store conn.old).committed }
-    ensures crash { Survives (state S.Store conn.old) (state S.Store conn.new) (MayKeep (state S.Store conn.old)) }
-    ensures found { HasCleanDisk (state S.Store conn.new) → IfOk result
-        (λ found. (it : Rows) → ShowsTables it (state S.Store conn.old).committed → AreRead it found) }
-    ensures order { HasCleanDisk (state S.Store conn.new) → IfOk result
-        (λ found. (it : Rows) → ShowsTables it (state S.Store conn.old).committed → AreByKey found) }
+    ensures reads { ReadsTables (λ it found. AreRead it found × AreByKey found)
+        (state S.Store conn.old) (state S.Store conn.new) result }
 {
     let mut tx = begin(conn);
     let found = whole::all_states_in(&mut tx, alloc)?;
@@ -123,21 +85,11 @@ pub fn stored_states_of<S: Rising>(
 ) -> Result<States, Error>
     requires { conn.old.in_transaction ≡ false }
     ensures outside { conn.new.in_transaction ≡ false }
-    ensures was_open { HasCleanDisk (state S.Store conn.new) → IsTrue (state S.Store conn.new).is_open
-        → IsTrue (state S.Store conn.old).is_open }
-    ensures open { HasCleanDisk (state S.Store conn.new) → OnOk result (IsTrue (state S.Store conn.old).is_open
-        × IsTrue (state S.Store conn.new).is_open) }
-    ensures kept { HasCleanDisk (state S.Store conn.new) → IsTrue (state S.Store conn.new).is_open
-        → (state S.Store conn.old).committed.schema ≡ library_schema
-        → (state S.Store conn.new).committed ≡ (state S.Store conn.old).committed }
-    ensures crash { Survives (state S.Store conn.old) (state S.Store conn.new) (MayKeep (state S.Store conn.old)) }
-    ensures found { HasCleanDisk (state S.Store conn.new) → IfOk result
-        (λ found. (it : Rows) → ShowsTables it (state S.Store conn.old).committed → AreReadOf cards.now it found) }
-    ensures order { HasCleanDisk (state S.Store conn.new) → IfOk result
-        (λ found. (it : Rows) → ShowsTables it (state S.Store conn.old).committed → AreByKey found) }
+    ensures reads { ReadsTables (λ it found. AreReadOf cards.now it found × AreByKey found)
+        (state S.Store conn.old) (state S.Store conn.new) result }
 {
     let mut tx = begin(conn);
-    let found = statuses::card_states_in(&mut tx, alloc, cards)?;
+    let found = status_reads::card_states_in(&mut tx, alloc, cards)?;
     tx.commit()?;
     Ok(found)
 }
@@ -150,16 +102,8 @@ pub fn stored_decks_of<S: Rising>(
 ) -> Result<Vec<Serial>, Error>
     requires { conn.old.in_transaction ≡ false }
     ensures outside { conn.new.in_transaction ≡ false }
-    ensures was_open { HasCleanDisk (state S.Store conn.new) → IsTrue (state S.Store conn.new).is_open
-        → IsTrue (state S.Store conn.old).is_open }
-    ensures open { HasCleanDisk (state S.Store conn.new) → OnOk result (IsTrue (state S.Store conn.old).is_open
-        × IsTrue (state S.Store conn.new).is_open) }
-    ensures kept { HasCleanDisk (state S.Store conn.new) → IsTrue (state S.Store conn.new).is_open
-        → (state S.Store conn.old).committed.schema ≡ library_schema
-        → (state S.Store conn.new).committed ≡ (state S.Store conn.old).committed }
-    ensures crash { Survives (state S.Store conn.old) (state S.Store conn.new) (MayKeep (state S.Store conn.old)) }
-    ensures found { HasCleanDisk (state S.Store conn.new) → IfOk result (λ found. (it : Rows)
-        → ShowsTables it (state S.Store conn.old).committed → AreDecksOf cards.now it.cards found.items) }
+    ensures reads { ReadsTables (λ it found. AreDecksOf cards.now it.cards found.items)
+        (state S.Store conn.old) (state S.Store conn.new) result }
 {
     let mut tx = begin(conn);
     let found = part::decks_in(&mut tx, alloc, cards)?;
@@ -175,16 +119,8 @@ pub fn stored_part<S: Rising>(
 ) -> Result<Part, Error>
     requires { conn.old.in_transaction ≡ false }
     ensures outside { conn.new.in_transaction ≡ false }
-    ensures was_open { HasCleanDisk (state S.Store conn.new) → IsTrue (state S.Store conn.new).is_open
-        → IsTrue (state S.Store conn.old).is_open }
-    ensures open { HasCleanDisk (state S.Store conn.new) → OnOk result (IsTrue (state S.Store conn.old).is_open
-        × IsTrue (state S.Store conn.new).is_open) }
-    ensures kept { HasCleanDisk (state S.Store conn.new) → IsTrue (state S.Store conn.new).is_open
-        → (state S.Store conn.old).committed.schema ≡ library_schema
-        → (state S.Store conn.new).committed ≡ (state S.Store conn.old).committed }
-    ensures crash { Survives (state S.Store conn.old) (state S.Store conn.new) (MayKeep (state S.Store conn.old)) }
-    ensures found { HasCleanDisk (state S.Store conn.new) → IfOk result
-        (λ found. (it : Rows) → ShowsTables it (state S.Store conn.old).committed → IsPart ages.now it found) }
+    ensures reads { ReadsTables (λ it found. IsPart ages.now it found)
+        (state S.Store conn.old) (state S.Store conn.new) result }
 {
     let mut tx = begin(conn);
     let found = part::part_in(&mut tx, alloc, ages)?;
@@ -199,19 +135,11 @@ pub fn stored_active<S: Rising>(
 ) -> Result<ActiveRows, Error>
     requires { conn.old.in_transaction ≡ false }
     ensures outside { conn.new.in_transaction ≡ false }
-    ensures was_open { HasCleanDisk (state S.Store conn.new) → IsTrue (state S.Store conn.new).is_open
-        → IsTrue (state S.Store conn.old).is_open }
-    ensures open { HasCleanDisk (state S.Store conn.new) → OnOk result (IsTrue (state S.Store conn.old).is_open
-        × IsTrue (state S.Store conn.new).is_open) }
-    ensures kept { HasCleanDisk (state S.Store conn.new) → IsTrue (state S.Store conn.new).is_open
-        → (state S.Store conn.old).committed.schema ≡ library_schema
-        → (state S.Store conn.new).committed ≡ (state S.Store conn.old).committed }
-    ensures crash { Survives (state S.Store conn.old) (state S.Store conn.new) (MayKeep (state S.Store conn.old)) }
-    ensures found { HasCleanDisk (state S.Store conn.new) → IfOk result
-        (λ found. (it : Rows) → ShowsTables it (state S.Store conn.old).committed → AreActiveRows it found) }
+    ensures reads { ReadsTables (λ it found. AreActiveRows it found)
+        (state S.Store conn.old) (state S.Store conn.new) result }
 {
     let mut tx = begin(conn);
-    let found = active::active_in(&mut tx, alloc)?;
+    let found = active_reads::active_in(&mut tx, alloc)?;
     tx.commit()?;
     Ok(found)
 }

@@ -19,9 +19,9 @@ ghost use Rattle.upd_sql.specs.LibraryTables.{ShowsTables};
 ghost use Rattle.upd_store.specs.Beginning.{MayBegin};
 ghost use Rattle.upd_store.specs.Faults.{IsUnopened};
 
-use crate::fault::{fault_of, no_memory, store_at};
 use crate::log_file::is_log_alone;
 use crate::sql_store::SqlStore;
+use crate::store_faults::{fault_of, no_memory, store_at};
 use sqlite::{Connection, FileFrom, FileStore, Files, Start};
 use sqlite_disk::Disk;
 use std::io::Read;
@@ -185,7 +185,8 @@ fn connect_or_make<S: Start>(
     }
 }
 
-fn begins_as_database(rt: &HostRuntime, path: &str) -> io::Result<bool> {
+/// Whether a file begins as each file of SQLite does.
+pub fn begins_as_database(rt: &HostRuntime, path: &str) -> io::Result<bool> {
     if !fs::metadata(rt, path)?.is_file() {
         return Ok(false);
     }

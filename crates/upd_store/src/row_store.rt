@@ -4,15 +4,16 @@ ghost use Rattle.sqlite.specs.Held.{state};
 ghost use Rattle.sqlite.specs.State.{HasCleanDisk};
 ghost use Rattle.upd_sql.specs.Schema.{library_schema};
 
-use crate::fault::{counted, no_memory, refused};
 use crate::sql_store::SqlStore;
+use crate::store_faults::{counted, no_memory, refused};
 use sqlite::Connection;
 use std::alloc::Global;
 use std::collections::BTreeMap;
 use upd_core::{Actives, CardRef, Change, Library, Name, Serial, States};
 use upd_records::{LibraryRows, RunRow};
 use upd_row_store::{
-    Meaning, RowStore, assembled, assembled_active, assembled_with_rest, decks_by_age, reads_with,
+    Homes, Meaning, RowStore, assembled, assembled_active, assembled_with_rest, decks_by_age,
+    homes_by_age, reads_with,
 };
 use upd_sql::{
     commit_changes, is_library_schema, settle_site, stored_active, stored_decks_of,
@@ -107,6 +108,16 @@ impl<S: Rising> RowStore for SqlStore<S> {
         }
         match stored_decks_of(&mut self.conn, alloc, cards) {
             Ok(ages) => Ok(decks_by_age(ages)),
+            Err(error) => Err(counted(error, &mut self.failures)),
+        }
+    }
+
+    fn homes_of(&mut self, alloc: Global, cards: &[CardRef]) -> Result<Homes, Fault> {
+        if !is_ours(&self.conn) {
+            return Err(refused(&mut self.failures));
+        }
+        match stored_decks_of(&mut self.conn, alloc, cards) {
+            Ok(ages) => Ok(homes_by_age(ages)),
             Err(error) => Err(counted(error, &mut self.failures)),
         }
     }

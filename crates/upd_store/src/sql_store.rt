@@ -9,7 +9,7 @@ ghost use Rattle.upd_store.specs.Beginning.{MayBegin};
 ghost use Rattle.upd_store.specs.Faults.{IsUnopened};
 ghost use Rattle.upd_store.specs.Version.{HasVersion};
 
-use crate::fault::{fault_of, store_at, version_fault};
+use crate::store_faults::{fault_of, store_at, version_fault};
 use crate::version::version_of;
 use sqlite::Connection;
 use upd_sql::{is_library_schema, is_no_schema, make_library};

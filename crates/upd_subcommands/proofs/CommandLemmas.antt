@@ -1,5 +1,5 @@
 -- A command that ended so, and is told so, has answered what is defined.
-use Rattle.std.proofs.Common.{◌≡◌, inl, inr, ℕ, List, [], Option, Result, Ok, Err, IsErrAnd, refl, ap, sym, ◌∙◌, subst}
+use Rattle.std.proofs.Common.{◌≡◌, ◌≢◌, inl, inr, ℕ, List, [], Option, Some, None, IsSomeAnd, Result, Ok, Err, IsErrAnd, refl, ap, sym, ◌∙◌, subst}
 use Rattle.std.specs.Io.KnownBytes.{Appends}
 use Rattle.std.proofs.KnownBytes.{Appends-nil}
 use Rattle.upd_text.specs.declared.fault.Fault.{Fault}
@@ -8,7 +8,7 @@ use Rattle.upd_text.specs.declared.fault.FaultKind.TheVariants.{Write}
 use Rattle.upd_compile.specs.File.{FileView}
 use Rattle.upd_subcommands.specs.Command.{Answers, EndsTrial, IsEnd, LeavesOutput, answer_to, ending}
 use Rattle.upd_subcommands.specs.Status.{exit_status, fault_line, no_memory}
-use Rattle.upd_io.proofs.FrontLemmas.{front_all}
+use Rattle.upd_wire.proofs.FrontLemmas.{front_all}
 
 -- a result that is this error
 pub error_is : {T : Type 0} (result : Result T Fault) (fault : Fault) → IsErrAnd result (λ e. e ≡ fault) → result ≡ Err fault
@@ -34,15 +34,7 @@ answered (Err fault) status defined output output' faults faults' (inr failed) (
     inr (told.0 ∙ failed.0, (fault, inl failed.0, failed.1, front_all faults faults' (fault_line fault) told.1))
 answered (Err fault) status defined output output' faults faults' (inr failed) (inr unsaid) = inr (unsaid.0, (fault, inl failed.0, failed.1, unsaid.1))
 
--- before anything was read or written, memory was wanting
-pub answered_at_once : (defined : Result FileView Fault) (fault : Fault) (status : ℕ) (output faults faults' : Option (List ℕ)) → fault ≡ no_memory
-    → IsEnd {U = Unit {0}} (Err fault) status faults faults' → Answers (answer_to defined) (ending status output output faults faults')
-answered_at_once defined fault status output faults faults' is told =
-    answered {U = Unit {0}} (Err fault) status defined output output faults faults'
-    (inr (ap (λ f. exit_status f.kind) is, nothing_left fault.kind output output (answer_to defined).output (Appends-nil output))) told
-
--- then the status is 3
-pub memory_status : (fault : Fault) (status : ℕ) (faults faults' : Option (List ℕ)) → fault ≡ no_memory
-    → IsEnd {U = Unit {0}} (Err fault) status faults faults' → status ≡ 3
-memory_status fault status faults faults' is (inl told) = told.0 ∙ ap (λ (f : Fault). exit_status f.kind) is
-memory_status fault status faults faults' is (inr told) = told.0
+-- what is not there is none
+pub none_of : {X : Type 0} (o : Option X) → ¬ (o ≢ None) → o ≡ None
+none_of None some = refl
+none_of {X} (Some x) some = absurd (some (λ is. subst (λ (o : Option X). IsSomeAnd o (λ _. Unit {0})) is tt))

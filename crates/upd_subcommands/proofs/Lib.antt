@@ -1,9 +1,8 @@
 pub mod StreamLemmas
 pub mod TrialLemmas
 pub mod CommandLemmas
-pub mod RequestLemmas
-pub mod TellingLemmas
-pub mod AskingLemmas
+pub mod ReportingLemmas
+pub mod QueryAnswers
 pub mod FailingLemmas
 pub mod TriedLemmas
 pub mod LineLemmas

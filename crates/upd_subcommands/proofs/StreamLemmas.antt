@@ -5,12 +5,12 @@ use Rattle.std.proofs.lemmas.List.{take_all}
 use Rattle.std.proofs.Math.Seq.{take-append_seam}
 use Rattle.std.proofs.KnownBytes.{Consumes-nil}
 use Rattle.std.specs.Io.KnownBytes.{Consumes, IsAtEnd}
-use Rattle.upd_io.specs.Inputs.{IsReadFailure}
+use Rattle.upd_wire.specs.Inputs.{IsReadFailure}
 use Rattle.upd_text.specs.Faults.{fault_at}
 use Rattle.upd_text.specs.declared.fault.Fault.{Fault}
 use Rattle.upd_text.specs.declared.fault.FaultKind.{FaultKind}
 use Rattle.upd_subcommands.specs.Status.{no_memory, read_failed}
-use Rattle.upd_io.proofs.InputLemmas.{input_at_end, input_behind, some_input}
+use Rattle.upd_wire.proofs.InputLemmas.{input_at_end, input_behind, some_input}
 use Rattle.upd_subcommands.specs.Streams.{IsFrontOf, TakesFront}
 
 -- what was read up to a bound, or to the end, is the front of the input

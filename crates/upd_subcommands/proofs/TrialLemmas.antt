@@ -5,7 +5,7 @@ use Rattle.upd_core.specs.Library.{empty}
 use Rattle.upd_apply.specs.Applying.{applied}
 use Rattle.std.proofs.lemmas.Bool.{cases_lt, lt-ltb}
 use Rattle.std.proofs.lemmas.List.{length-take-le, take_all}
-use Rattle.upd_io.specs.Inputs.{IsInput}
+use Rattle.upd_wire.specs.Inputs.{IsInput}
 use Rattle.upd_text.specs.declared.fault.Fault.{Fault}
 use Rattle.upd_text.specs.declared.fault.FaultKind.{FaultKind}
 use Rattle.upd_text.specs.declared.fault.FaultKind.TheVariants.{RunLong, TooManyLines, BadByte, LineLong, BadName, BadCard, BadField, NoIdent, TextNowhere}

@@ -10,7 +10,7 @@ use Rattle.upd_desk.specs.Journal.{Journal}
 use Rattle.upd_desk.specs.Outcomes.{ReplyView, reply_on}
 use Rattle.upd_edit.specs.Trying.{tried}
 use Rattle.upd_edit.specs.Warnings.{warning_lines}
-use Rattle.upd_subcommands.specs.Errands.{IsTriedAs}
+use Rattle.upd_subcommands.specs.DeskCommands.{IsTriedAs}
 
 module _ {S : Type 0} (meaning : Ghosts S) where
   open meaning use {shows, image, is_open, is_honest}

@@ -1,16 +1,12 @@
 -- What a command reads, what it writes, and its exit status.
 use Rattle.std.specs.Prelude.{◌≡◌, ◌⊎◌, ℕ, List, [], Option, Result, Ok, Err, IsOkAnd}
 use Rattle.std.specs.Io.KnownBytes.{Appends}
-use Rattle.clap.specs.Words.{IsAmong, Text}
-use Rattle.clap.specs.declared.error.kind.ErrorKind.{ErrorKind}
-use Rattle.clap.specs.declared.error.kind.ErrorKind.TheVariants.{DisplayHelp, DisplayVersion}
 use Rattle.upd_text.specs.declared.fault.Fault.{Fault}
 use Rattle.upd_text.specs.declared.fault.FaultKind.{FaultKind}
 use Rattle.upd_text.specs.declared.fault.FaultKind.TheVariants.{Write}
 use Rattle.upd_compile.specs.File.{FileView}
 use Rattle.upd_subcommands.specs.Status.{exit_status, fault_line}
-use Rattle.upd_io.specs.Fronts.{AppendsFront}
-use Rattle.upd_words.specs.Words.{word_faults}
+use Rattle.upd_wire.specs.Fronts.{AppendsFront}
 
 -- What a command answers: its exit status, its output, and what it says on the fault stream.
 pub record Answer : Type 0 where
@@ -37,8 +33,8 @@ answer_to (Ok file) = record { status = 0; output = file.bytes; faults = [] }
 answer_to (Err fault) = record { status = exit_status fault.kind; output = []; faults = fault_line fault }
 
 -- A line went to the fault stream and the status is the one meant; or the write failed, and at most a beginning of the line is there.
-abbrev pub IsTold : ℕ → List ℕ → ℕ → Option (List ℕ) → Option (List ℕ) → Type 0
-IsTold meant line status faults faults' =
+abbrev pub IsReported : ℕ → List ℕ → ℕ → Option (List ℕ) → Option (List ℕ) → Type 0
+IsReported meant line status faults faults' =
     ((status ≡ meant) × Appends faults faults' line) ⊎ ((status ≡ 3) × AppendsFront faults faults' line)
 
 -- what is on the output after a fault: at most a beginning of what is defined where a write failed, and else nothing
@@ -74,19 +70,9 @@ EndsTrial (Err fault) output output' defined =
 -- How a command reports its end: a fault by its line, of which only a prefix is written where the write failed.
 abbrev pub IsEnd : {U : Type 0} → Result U Fault → ℕ → Option (List ℕ) → Option (List ℕ) → Type 0
 IsEnd (Ok u) status faults faults' = (status ≡ 0) × Appends faults faults' []
-IsEnd (Err fault) status faults faults' = IsTold (exit_status fault.kind) (fault_line fault) status faults faults'
+IsEnd (Err fault) status faults faults' = IsReported (exit_status fault.kind) (fault_line fault) status faults faults'
 
 -- the exit status of a command that ended so; its fault, if any, is reported by its line
 abbrev pub IsEndOf : Result ℕ Fault → ℕ → Option (List ℕ) → Option (List ℕ) → Type 0
 IsEndOf (Ok meant) status faults faults' = (status ≡ meant) × Appends faults faults' []
-IsEndOf (Err fault) status faults faults' = IsTold (exit_status fault.kind) (fault_line fault) status faults faults'
-
--- the exit status of words that are not read: 0 for help or the version, and 2 for a mistake
-abbrev pub told_status : ErrorKind → ℕ
-told_status DisplayHelp = 0
-told_status DisplayVersion = 0
-told_status _ = 2
-
--- words that are not read were told so, or memory or a write failed
-abbrev pub IsToldOf : List Text → ℕ → Type 0
-IsToldOf words status = (status ≡ 3) ⊎ ((kind : ErrorKind) × IsAmong kind (word_faults words) × (status ≡ told_status kind))
+IsEndOf (Err fault) status faults faults' = IsReported (exit_status fault.kind) (fault_line fault) status faults faults'

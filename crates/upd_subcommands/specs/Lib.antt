@@ -1,12 +1,11 @@
 pub mod Status
 pub mod Streams
 pub mod Trial
-pub mod Operands
 pub mod Command
 pub mod Inputs
-pub mod Telling
+pub mod Reporting
 pub mod Explaining
 pub mod Correcting
 pub mod ListingFile
 pub mod Listening
-pub mod Errands
+pub mod DeskCommands

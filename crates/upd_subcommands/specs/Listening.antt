@@ -4,7 +4,7 @@ use Rattle.std.specs.Io.KnownBytes.{Appends}
 use Rattle.std.specs.Net.Text.{socket_text}
 use Rattle.std.specs.declared.net.socket_addr.SocketAddr.{SocketAddr}
 use Rattle.upd_text.specs.declared.fault.Fault.{Fault}
-use Rattle.upd_io.specs.Fronts.{AppendsFront}
+use Rattle.upd_wire.specs.Fronts.{AppendsFront}
 use Rattle.upd_subcommands.specs.Status.{write_failed}
 
 -- the line for an address, as `upd: listening on 127.0.0.1:8080`

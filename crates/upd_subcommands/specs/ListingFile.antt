@@ -8,8 +8,8 @@ use Rattle.upd_correct.specs.declared.listed_deck.ListedError.{ListedError}
 use Rattle.upd_correct.specs.declared.listed_deck.ListedError.TheVariants.{NoMemory, NotListing, OtherDeck, Refused}
 use Rattle.upd_edit.specs.declared.editing.EditError.TheVariants.{Failed}
 use Rattle.upd_edit.specs.declared.editing.TheConstants.{MAX_TEXT_BYTES}
-use Rattle.upd_subcommands.specs.Command.{Ending, IsTold}
-use Rattle.upd_subcommands.specs.Correcting.{IsRefusedBy, TellsCorrection}
+use Rattle.upd_subcommands.specs.Command.{Ending, IsReported}
+use Rattle.upd_subcommands.specs.Correcting.{IsRefusedBy, ReportsCorrection}
 use Rattle.upd_subcommands.specs.Status.{fault_line, no_memory}
 
 -- the line that reports what is wrong in a line: name, place and words, as `OtherDeck 3:1 this line begins a deck that FILE does not list`
@@ -24,22 +24,22 @@ other_deck_line line = place_line (codes "OtherDeck") line (codes "this line beg
 
 -- why there is no run from a listing, on the fault stream
 abbrev pub IsListedFault : ListedError → ℕ → Option (List ℕ) → Option (List ℕ) → Type 0
-IsListedFault NoMemory status faults faults' = IsTold 3 (fault_line no_memory) status faults faults'
-IsListedFault (NotListing line) status faults faults' = IsTold 1 (not_listing_line line) status faults faults'
-IsListedFault (OtherDeck line) status faults faults' = IsTold 1 (other_deck_line line) status faults faults'
+IsListedFault NoMemory status faults faults' = IsReported 3 (fault_line no_memory) status faults faults'
+IsListedFault (NotListing line) status faults faults' = IsReported 1 (not_listing_line line) status faults faults'
+IsListedFault (OtherDeck line) status faults faults' = IsReported 1 (other_deck_line line) status faults faults'
 IsListedFault (Refused refusals) status faults faults' = IsRefusedBy refusals.items status faults faults'
 
 -- the run from a listing is on the output; or the fault stream says why there is none, and nothing is on the output
-abbrev pub TellsListed : List ℕ → List ℕ → List ℕ → Result (List ℕ) ListedError → Ending → Type 0
-TellsListed listing set text (Ok run) end = IsListedRun listing set text run × TellsCorrection (Ok run) end
-TellsListed listing set text (Err error) end =
+abbrev pub ReportsListing : List ℕ → List ℕ → List ℕ → Result (List ℕ) ListedError → Ending → Type 0
+ReportsListing listing set text (Ok run) end = IsListedRun listing set text run × ReportsCorrection (Ok run) end
+ReportsListing listing set text (Err error) end =
     IsListedCause listing set text error × IsListedFault error end.status end.faults end.faults' × Appends end.output end.output' []
 
 -- An edited text was answered from this listing, and the answer was told. A text that is too long is RunLong, at 0.
 abbrev pub CorrectsListing : List ℕ → List ℕ → List ℕ → Ending → Type 0
 CorrectsListing listing set text end =
-    ((length text ≤ MAX_TEXT_BYTES) × (answer : Result (List ℕ) ListedError) × TellsListed listing set text answer end)
-    ⊎ ((MAX_TEXT_BYTES < length text) × TellsCorrection (Err (Failed (fault_at RunLong 0))) end)
+    ((length text ≤ MAX_TEXT_BYTES) × (answer : Result (List ℕ) ListedError) × ReportsListing listing set text answer end)
+    ⊎ ((MAX_TEXT_BYTES < length text) × ReportsCorrection (Err (Failed (fault_at RunLong 0))) end)
 
 -- an edited text was answered from the listing in a file
 abbrev pub CorrectsListed : List ℕ → List ℕ → Ending → Type 0

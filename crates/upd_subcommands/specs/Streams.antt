@@ -1,7 +1,7 @@
 -- What is read of an input, and streams before and after a call.
 use Rattle.std.specs.Prelude.{◌≡◌, ◌≤◌, ℕ, ◌+◌, List, length, take, Option}
 use Rattle.std.specs.Io.KnownBytes.{Consumes}
-use Rattle.upd_io.specs.Inputs.{IsInput}
+use Rattle.upd_wire.specs.Inputs.{IsInput}
 use Rattle.upd_text.specs.declared.limits.TheConstants.{MAX_RUN_BYTES}
 
 -- at most this number of bytes was read, and those after them are left

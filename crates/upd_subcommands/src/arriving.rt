@@ -1,20 +1,19 @@
 //! Commands that change a library: runs that arrive, and settlements.
 ghost use Rattle.std.specs.Prelude.{◌≡◌, ◌≢◌, ◌⊎◌, ◌+◌, ◌∷◌, ◌++◌, [], Err, IfErr, IfOk, Ok};
-ghost use Rattle.upd_subcommands.specs.Command.{IsTold, ending};
-ghost use Rattle.upd_subcommands.specs.Errands.{HandsIn, SettlesSite, TriesRun};
+ghost use Rattle.upd_subcommands.specs.Command.{IsReported, ending};
+ghost use Rattle.upd_subcommands.specs.DeskCommands.{HandsIn, SettlesSite, TriesRun};
 ghost use Rattle.upd_subcommands.specs.Status.{exit_status};
 ghost use Rattle.upd_subcommands.specs.Streams.{TakesFront};
-ghost use Rattle.upd_subcommands.specs.Telling.{TellsMark, TellsRun, TellsTried, Writes};
+ghost use Rattle.upd_subcommands.specs.Reporting.{ReportsMark, ReportsRun, ReportsTried, Writes};
 ghost use Rattle.upd_text.specs.declared.limits.TheConstants.{MAX_RUN_BYTES};
 
-use crate::status::{DONE, FAILED, REFUSED, finish};
+use crate::exit_status::{DONE, FAILED, REFUSED, finish};
 use crate::streams::{read_input, write_out, write_parts_out};
 use itoa::Buffer;
 use std::alloc::Global;
 use std::io::{Read, Write};
-use upd_desk::{Desk, Reply, fault_answer};
+use upd_desk::{Desk, Reply, fault_answer, settled_parts};
 use upd_edit::{try_at, warnings_at};
-use upd_reply::settled_parts;
 use upd_row_store::RowStore;
 use upd_text::Fault;
 
@@ -29,19 +28,19 @@ pub(crate) fn hand_in<S: RowStore, R: Read, W: Write>(
     input: &mut R,
     output: &mut W,
 ) -> Result<u8, Fault>
-    ensures tells { HandsIn S.Meaning site.now number mode.now
+    ensures reports { HandsIn S.Meaning site.now number mode.now
         (R.remaining input.old) result desk.old.store desk.new.store (W.contents output.old) (W.contents output.new) }
     ensures front { TakesFront (MAX_RUN_BYTES + 1) (R.remaining input.old) (R.remaining input.new) }
     ensures status { IfOk result (λ status. (status ≡ 0) ⊎ (status ≡ 1)) }
 {
     let run = read_input(alloc, input)?;
     let answer = desk.arrive(alloc, site, number, mode, &run);
-    tell_answer(alloc, answer, output)
+    write_answer(alloc, answer, output)
 }
 
 /// The reply that a run would get goes to the output as a line, as `hand_in` writes it, and its warnings to the fault
 /// stream behind it. Both are made before either is written. Nothing is stored. Returns the exit status.
-pub fn try_run<S: RowStore, W: Write, E: Write>(
+pub(crate) fn try_run<S: RowStore, W: Write, E: Write>(
     alloc: Global,
     desk: &mut Desk<S>,
     mode: &str,
@@ -49,38 +48,38 @@ pub fn try_run<S: RowStore, W: Write, E: Write>(
     output: &mut W,
     faults: &mut E,
 ) -> u8
-    ensures tells { TriesRun S.Meaning mode.now run.now desk.old.store desk.new.store
+    ensures reports { TriesRun S.Meaning mode.now run.now desk.old.store desk.new.store
         (ending result (W.contents output.old) (W.contents output.new) (E.contents faults.old) (E.contents faults.new)) }
     ensures status { result ≢ 2 }
 {
     let answer = try_at(alloc, desk, mode, run);
     match warnings_at(alloc, desk, run) {
-        Ok(warnings) => tell_tried(alloc, answer, &warnings, output, faults),
+        Ok(warnings) => write_tried(alloc, answer, &warnings, output, faults),
         Err(fault) => finish(Err(fault), faults),
     }
 }
 
 /// Writes the answer to a run that was tried, and its warnings behind it. Returns the exit status.
-fn tell_tried<W: Write, E: Write>(
+fn write_tried<W: Write, E: Write>(
     alloc: Global,
     answer: Result<Reply, Fault>,
     warnings: &[u8],
     output: &mut W,
     faults: &mut E,
 ) -> u8
-    ensures tells { TellsTried answer (Ok warnings.now)
+    ensures reports { ReportsTried answer (Ok warnings.now)
         (ending result (W.contents output.old) (W.contents output.new) (E.contents faults.old) (E.contents faults.new)) }
     ensures status { result ≢ 2 }
 {
-    match tell_answer(alloc, answer, output) {
-        Ok(status) => warn(warnings, status, faults),
+    match write_answer(alloc, answer, output) {
+        Ok(status) => write_warnings(warnings, status, faults),
         Err(fault) => finish(Err(fault), faults),
     }
 }
 
 /// Writes warnings, if there are any, and returns the exit status: the given one, or that of a write that failed.
-fn warn<E: Write>(warnings: &[u8], status: u8, faults: &mut E) -> u8
-    ensures told { IsTold status warnings.now result (E.contents faults.old) (E.contents faults.new) }
+fn write_warnings<E: Write>(warnings: &[u8], status: u8, faults: &mut E) -> u8
+    ensures reported { IsReported status warnings.now result (E.contents faults.old) (E.contents faults.new) }
     ensures status { (result ≡ status) ⊎ (result ≡ 3) }
 {
     if warnings.is_empty() {
@@ -93,22 +92,22 @@ fn warn<E: Write>(warnings: &[u8], status: u8, faults: &mut E) -> u8
 }
 
 /// A reply goes to the output as a line. So does the text of a fault, except NoMemory and Store.
-fn tell_answer<W: Write>(
+fn write_answer<W: Write>(
     alloc: Global,
     answer: Result<Reply, Fault>,
     output: &mut W,
 ) -> Result<u8, Fault>
-    ensures tells { TellsRun answer result (W.contents output.old) (W.contents output.new) }
+    ensures reports { ReportsRun answer result (W.contents output.old) (W.contents output.new) }
     ensures status { IfOk result (λ status. (status ≡ 0) ⊎ (status ≡ 1)) }
 {
     match answer {
-        Ok(reply) => tell(&reply, output),
-        Err(fault) => tell_fault(alloc, fault, output),
+        Ok(reply) => write_reply(&reply, output),
+        Err(fault) => write_refusal(alloc, fault, output),
     }
 }
 
-fn tell<W: Write>(reply: &Reply, output: &mut W) -> Result<u8, Fault>
-    ensures tells { TellsRun (Ok reply.now) result (W.contents output.old) (W.contents output.new) }
+fn write_reply<W: Write>(reply: &Reply, output: &mut W) -> Result<u8, Fault>
+    ensures reports { ReportsRun (Ok reply.now) result (W.contents output.old) (W.contents output.new) }
     ensures status { IfOk result (λ status. (status ≡ 0) ⊎ (status ≡ 1)) }
 {
     if reply.accepted {
@@ -118,8 +117,8 @@ fn tell<W: Write>(reply: &Reply, output: &mut W) -> Result<u8, Fault>
     }
 }
 
-fn tell_fault<W: Write>(alloc: Global, fault: Fault, output: &mut W) -> Result<u8, Fault>
-    ensures tells { TellsRun (Err fault) result (W.contents output.old) (W.contents output.new) }
+fn write_refusal<W: Write>(alloc: Global, fault: Fault, output: &mut W) -> Result<u8, Fault>
+    ensures reports { ReportsRun (Err fault) result (W.contents output.old) (W.contents output.new) }
     ensures status { IfOk result (λ status. (status ≡ 0) ⊎ (status ≡ 1)) }
 {
     match fault_answer(alloc, fault) {
@@ -147,7 +146,7 @@ pub(crate) fn settle<S: RowStore, W: Write>(
     number: u64,
     output: &mut W,
 ) -> Result<u8, Fault>
-    ensures tells { SettlesSite S.Meaning site.now number
+    ensures reports { SettlesSite S.Meaning site.now number
         result desk.old.store desk.new.store (W.contents output.old) (W.contents output.new) }
     ensures status { IfOk result (λ status. status ≡ 0) }
     ensures silent { IfErr result (λ fault. exit_status fault.kind ≡ 1 → output.new ≡ output.old) }
@@ -160,7 +159,7 @@ pub(crate) fn settle<S: RowStore, W: Write>(
 
 /// Writes the text of a mark, and LF.
 fn write_mark<W: Write>(output: &mut W, site: &str, mark: u64) -> Result<u8, Fault>
-    ensures tells { TellsMark site.now (Ok mark) result (W.contents output.old) (W.contents output.new) }
+    ensures reports { ReportsMark site.now (Ok mark) result (W.contents output.old) (W.contents output.new) }
     ensures status { IfOk result (λ status. status ≡ 0) }
     ensures silent { IfErr result (λ fault. exit_status fault.kind ≡ 1 → output.new ≡ output.old) }
 {

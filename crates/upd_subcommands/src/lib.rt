@@ -5,26 +5,19 @@
 #![tactic(auto)]
 
 mod arriving;
-mod asking;
-mod correcting;
-mod errands;
+mod correction_command;
+mod desk_command;
+mod exit_status;
 mod explaining;
 mod listening;
 mod listing_file;
-mod looking;
-mod operands;
-mod status;
+mod queries;
 mod streams;
 mod trial_run;
 
-pub use arriving::try_run;
-pub use asking::{Form, Question};
-pub use correcting::correct_text;
-pub use errands::{Errand, do_errand, read_errand};
+pub use desk_command::{carry_out_at, read_first};
+pub use exit_status::{DONE, FAILED, REFUSED, finish, finish_with, report_unread, report_words};
 pub use explaining::carry_out_explaining;
-pub use listening::report_place;
 pub use listing_file::{correct_listing, read_listing};
-pub use operands::read_address;
-pub use status::{DONE, FAILED, REFUSED, finish, report_words, tell_unread};
-pub use streams::{read_front, read_input, write_out, write_parts_out};
+pub use streams::{write_out, write_parts_out};
 pub use trial_run::{carry_out_trial, trial};

@@ -15,7 +15,10 @@ const ROOM: usize = 80;
 
 /// Writes where a listener listens as one line, in one write, and flushes. Read, at 0, where its address isn't
 /// available, and Write, at 0, where the write failed. Does not allocate.
-pub fn report_place<E: io::Write>(listener: &TcpListener, faults: &mut E) -> Result<(), Fault>
+pub(crate) fn report_place<E: io::Write>(
+    listener: &TcpListener,
+    faults: &mut E,
+) -> Result<(), Fault>
     ensures { ReportsPlace result (E.contents faults.old) (E.contents faults.new) }
 {
     match line_of_listener(listener) {

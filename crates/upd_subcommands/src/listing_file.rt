@@ -1,11 +1,11 @@
 //! `correct` where the file is the listing of a deck in place of a library.
 ghost use Rattle.std.specs.Prelude.{◌≡◌, ◌≤◌, ◌⊎◌, IfErr, IfOk, IsTrue, vec_len};
-ghost use Rattle.upd_subcommands.specs.Command.{IsTold, ending};
+ghost use Rattle.upd_subcommands.specs.Command.{IsReported, ending};
 ghost use Rattle.upd_subcommands.specs.ListingFile.{CorrectsListing, IsListedFault, place_line};
 ghost use Rattle.upd_subcommands.specs.Status.{no_memory};
 
-use crate::correcting::{tell_refusals, write_run};
-use crate::status::{FAILED, REFUSED, finish};
+use crate::correction_command::{write_refusals, write_run};
+use crate::exit_status::{FAILED, REFUSED, finish};
 use crate::streams::write_parts_out;
 use itoa::Buffer;
 use std::alloc::Global;
@@ -13,9 +13,9 @@ use std::fs::File;
 use std::io::{Read, Write};
 use upd_correct::{ListedError, correct_listed};
 use upd_edit::MAX_TEXT_BYTES;
-use upd_io::read_up_to;
 use upd_text::limits::{MAX_CARDS, MAX_LINE_BYTES};
 use upd_text::{Fault, FaultKind};
+use upd_wire::read_up_to;
 
 /// The longest listing of a deck, in bytes: a head line, and as many cards as a library has, each as long as it can be.
 const MAX_LISTING_BYTES: usize = 25 + MAX_CARDS * (MAX_LINE_BYTES + 20);
@@ -66,7 +66,7 @@ pub fn correct_listing<W: Write, E: Write>(
     output: &mut W,
     faults: &mut E,
 ) -> u8
-    ensures tells { CorrectsListing listing.now set.now text.now
+    ensures reports { CorrectsListing listing.now set.now text.now
         (ending result (W.contents output.old) (W.contents output.new) (E.contents faults.old) (E.contents faults.new)) }
     ensures silent { (result ≡ 1) ⊎ (result ≡ 2) → output.new ≡ output.old }
     ensures clean { result ≡ 0 → faults.new ≡ faults.old }
@@ -76,36 +76,36 @@ pub fn correct_listing<W: Write, E: Write>(
     }
     match correct_listed(alloc, listing, set.as_bytes(), text) {
         Ok(run) => write_run(&run, output, faults),
-        Err(error) => tell_listed(alloc, &error, faults),
+        Err(error) => write_listed_error(alloc, &error, faults),
     }
 }
 
 /// Says why there is no run from a listing. Returns the exit status.
-fn tell_listed<E: Write>(alloc: Global, error: &ListedError, faults: &mut E) -> u8
-    ensures told { IsListedFault error.now result (E.contents faults.old) (E.contents faults.new) }
+fn write_listed_error<E: Write>(alloc: Global, error: &ListedError, faults: &mut E) -> u8
+    ensures reported { IsListedFault error.now result (E.contents faults.old) (E.contents faults.new) }
     ensures status { (result ≡ 1) ⊎ (result ≡ 3) }
 {
     match error {
         ListedError::NoMemory => finish(Err(FaultKind::NoMemory.without_line()), faults),
-        ListedError::NotListing(line) => tell_place(
+        ListedError::NotListing(line) => write_place(
             b"NotListing",
             *line,
             b"FILE is not a library, and this line of it is not one of a deck's listing",
             faults,
         ),
-        ListedError::OtherDeck(line) => tell_place(
+        ListedError::OtherDeck(line) => write_place(
             b"OtherDeck",
             *line,
             b"this line begins a deck that FILE does not list",
             faults,
         ),
-        ListedError::Refused(refusals) => tell_refusals(alloc, refusals, faults),
+        ListedError::Refused(refusals) => write_refusals(alloc, refusals, faults),
     }
 }
 
 /// Writes the line of what is wrong in a line. Returns the exit status.
-fn tell_place<E: Write>(name: &[u8], line: usize, what: &[u8], faults: &mut E) -> u8
-    ensures told { IsTold 1 (place_line name.now line what.now) result (E.contents faults.old) (E.contents faults.new) }
+fn write_place<E: Write>(name: &[u8], line: usize, what: &[u8], faults: &mut E) -> u8
+    ensures reported { IsReported 1 (place_line name.now line what.now) result (E.contents faults.old) (E.contents faults.new) }
     ensures status { (result ≡ 1) ⊎ (result ≡ 3) }
 {
     let mut number = Buffer::new();

@@ -4,16 +4,16 @@ ghost use Rattle.std.specs.Io.KnownBytes.{Appends};
 ghost use Rattle.std.specs.List.{flat_map};
 ghost use Rattle.upd_subcommands.specs.Status.{no_memory, read_failed, write_failed};
 ghost use Rattle.upd_subcommands.specs.Streams.{IsFrontOf, IsRunOn, TakesFront};
-ghost use Rattle.upd_io.specs.Fronts.{AppendsFront};
+ghost use Rattle.upd_wire.specs.Fronts.{AppendsFront};
 
 use std::alloc::Global;
 use std::io::{Read, Write};
-use upd_io::{read_up_to, write_parts};
 use upd_text::limits::MAX_RUN_BYTES;
 use upd_text::{Fault, FaultKind};
+use upd_wire::{read_up_to, write_parts};
 
 /// All bytes of a run on an input, or the first `MAX_RUN_BYTES` and one more, which shows that it is too long.
-pub fn read_input<R: Read>(alloc: Global, input: &mut R) -> Result<Vec<u8>, Fault>
+pub(crate) fn read_input<R: Read>(alloc: Global, input: &mut R) -> Result<Vec<u8>, Fault>
     ensures ok { IfOk result (λ bytes. IsRunOn (R.remaining input.old) bytes.items) }
     ensures front { TakesFront (MAX_RUN_BYTES + 1) (R.remaining input.old) (R.remaining input.new) }
     ensures err { IfErr result (λ fault. (fault ≡ no_memory) ⊎ (fault ≡ read_failed)) }
@@ -25,7 +25,11 @@ pub fn read_input<R: Read>(alloc: Global, input: &mut R) -> Result<Vec<u8>, Faul
 }
 
 /// The bytes of an input up to a number of them.
-pub fn read_front<R: Read>(alloc: Global, input: &mut R, most: usize) -> Result<Vec<u8>, Fault>
+pub(crate) fn read_front<R: Read>(
+    alloc: Global,
+    input: &mut R,
+    most: usize,
+) -> Result<Vec<u8>, Fault>
     ensures ok { IfOk result (λ bytes. IsFrontOf most (R.remaining input.old) bytes.items) }
     ensures front { TakesFront most (R.remaining input.old) (R.remaining input.new) }
     ensures err { IfErr result (λ fault. (fault ≡ no_memory) ⊎ (fault ≡ read_failed)) }

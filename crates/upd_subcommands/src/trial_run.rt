@@ -1,6 +1,6 @@
 //! A run on its own, against an empty library.
 ghost use Rattle.std.specs.Prelude.{◌≡◌, ◌+◌, ℕ, IfErr, List, None};
-ghost use Rattle.upd_io.specs.Inputs.{IsInput};
+ghost use Rattle.upd_wire.specs.Inputs.{IsInput};
 ghost use Rattle.upd_text.specs.Outcome.{GivesAt, at_line, need};
 ghost use Rattle.upd_text.specs.declared.fault.FaultKind.TheVariants.{BadMode};
 ghost use Rattle.upd_text.specs.declared.limits.TheConstants.{MAX_RUN_BYTES};
@@ -20,6 +20,12 @@ use upd_deck::read_run;
 use upd_text::{Fault, FaultKind};
 
 /// The compile file of a run that is applied to an empty library, or the run's first refusal. Nothing is stored.
+///
+/// ```text
+/// *DECK A        full: two lines, ONE of card A.2 and TWO of card A.3
+/// ONE
+/// TWO
+/// ```
 pub fn trial(alloc: Global, mode: Mode, run: &[u8]) -> Result<CompileFile, Fault>
     ensures { GivesAt (λ file. file) result (trial_of mode run.now) }
 {

@@ -80,6 +80,52 @@ fn a_range_leaves_an_inactive_card_out(rt: HostRuntime) -> Result<(), Fail> {
 }
 
 #[test]
+fn a_range_takes_all_cards_that_go(rt: HostRuntime) -> Result<(), Fail> {
+    let lines = deck_text(rt.alloc(), b"ABCDEFGHIJKLMNOPQRST")?;
+    let library = after(rt.alloc(), &[lines.as_str()])?;
+    let found = run_for(rt.alloc(), &library, "*DECK A\nA\nT\n")?;
+    same_text("the run", found.as_str(), "*IDENT Z\n*DELETE A.3,A.20\n")
+}
+
+#[test]
+fn lines_that_differ_in_their_last_byte_are_not_matched(rt: HostRuntime) -> Result<(), Fail> {
+    let library = after(rt.alloc(), &["*DECK A\nLINE 1\nWORD 1\nLINE 2\n"])?;
+    let found = run_for(rt.alloc(), &library, "*DECK A\nWORD 1\nLINE 3\n")?;
+    let run = "*IDENT Z\n*DELETE A.2\n*DELETE A.4\nLINE 3\n";
+    same_text("the run", found.as_str(), run)
+}
+
+/// A run that follows others, the first of which adds deck A; a text of deck A, and the run for it.
+fn expect_older(alloc: Global, runs: &[&str], text: &str, run: &str) -> Result<(), Fail> {
+    let library = after(alloc, runs)?;
+    let found = run_for(alloc, &library, text)?;
+    same_text(text, found.as_str(), run)
+}
+
+#[test]
+fn of_equal_cards_those_of_the_older_ident_stay(rt: HostRuntime) -> Result<(), Fail> {
+    expect_older(
+        rt.alloc(),
+        &[
+            "*DECK A\n#if\n#else\n#endif\n",
+            "*IDENT X\n*INSERT A.2\nMORE\n#else\n#endif\n#if\n",
+        ],
+        "*DECK A\n#if\nMORE\n#else\n#endif\n",
+        "*IDENT Z\n*DELETE X.2,X.4\n",
+    )?;
+    expect_older(
+        rt.alloc(),
+        &[
+            "*DECK A\n#else\n#endif\n",
+            "*IDENT X\n*INSERT A.3\nONE\n#else\nTWO\n#endif\nONE\n",
+            "*IDENT Y\n*DELETE X.1\n",
+        ],
+        "*DECK A\n#else\nTWO\n#endif\n",
+        "*IDENT Z\n*DELETE A.3\n*DELETE X.2\n*DELETE X.5\n",
+    )
+}
+
+#[test]
 fn all_problems_are_named(rt: HostRuntime) -> Result<(), Fail> {
     expect_refusals(
         rt.alloc(),
@@ -179,6 +225,37 @@ fn the_first_line_of_a_long_deck_is_moved_to_its_end(rt: HostRuntime) -> Result<
         "LINE 2500\nLINE 2\n",
         "*IDENT Z\n*DELETE D.2\n*INSERT P.500\nLINE 2\n",
     )
+}
+
+/// Deck D of 2,500 cards that are all alike: D.2 to D.2000, and P.1 to P.500.
+fn alike_deck(alloc: Global) -> Result<Library, Fail> {
+    let deck = alike(alloc, "*DECK D\n", 1_999, "")?;
+    let rest = alike(alloc, "*IDENT P\n*INSERT D.2000\n", 500, "")?;
+    after(alloc, &[deck.as_str(), rest.as_str()])
+}
+
+/// Some text, lines that are all alike, and some text.
+fn alike(alloc: Global, before: &str, count: usize, after: &str) -> Result<String, Fail> {
+    let mut text = String::from_str(alloc, before)?;
+    for _ in 0..count {
+        text.push_str("SAME\n")?;
+    }
+    text.push_str(after)?;
+    Ok(text)
+}
+
+#[test]
+fn lines_that_are_all_alike_are_matched(rt: HostRuntime) -> Result<(), Fail> {
+    let alloc = rt.alloc();
+    let text = alike(alloc, "*DECK D\nFIRST\n", 2_489, "LAST\n")?;
+    let found = run_for(alloc, &alike_deck(alloc)?, text.as_str())?;
+    let run = found.as_str();
+    holds(
+        "it begins",
+        run.starts_with("*IDENT Z\n*INSERT D.1\nFIRST\n*DELETE P."),
+    )?;
+    holds("it ends", run.ends_with("\nLAST\n"))?;
+    same("its lines", run.lines().count(), 5)
 }
 
 /// Some letters, changed at random.

@@ -1,9 +1,9 @@
 //! The lines of stored runs, made of rows.
 use std::alloc::Global;
 use std::test::Fail;
-use upd_overview::run_lines;
 use upd_records::RunRow;
 use upd_testkit::check::same_text;
+use upd_views::run_lines;
 
 /// A stored run with a reply.
 fn stored(alloc: Global, number: u64, accepted: bool, reply: &[u8]) -> Result<RunRow, Fail> {

@@ -2,9 +2,9 @@
 use std::alloc::Global;
 use std::test::Fail;
 use upd_core::Library;
-use upd_look::{blame, explain, page, show};
 use upd_testkit::applying::{after, name};
 use upd_testkit::check::{same, same_text};
+use upd_views::{blame, explain, page, show};
 
 /// Set X replaces the line of deck A. Y and Z yank X, and W switches the yank of Z off.
 fn yanked(alloc: Global) -> Result<Library, Fail> {

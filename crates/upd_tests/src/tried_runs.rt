@@ -80,6 +80,69 @@ fn comments_are_reported_and_unread_runs_have_no_warnings(rt: HostRuntime) -> Re
         b"*IDENT Z\n*/ one\n*INSERT A.2\n*/two\n*delete\n*/",
         "upd: 2: dropped comments: 3, the first here\nupd: 5: *delete is text, not *DELETE\n",
     )?;
-    expect_warnings(alloc, b"", "")?;
     expect_warnings(alloc, b"*/ one\n*DELETE\n", "")
+}
+
+/// Deck A, into which P3 has put two cards; P8 has replaced the second of them. S has put a card into A, and its run has
+/// added the deck NEWD.
+fn edited_by_many(alloc: Global, last: &str) -> Result<Library, Fail> {
+    after(
+        alloc,
+        &[
+            "*DECK A\n1\n2\n3\n",
+            "*IDENT P3\n*INSERT A.2\nONE\nTWO\n",
+            "*IDENT P8\n*DELETE P3.2\nNEW\n",
+            "*IDENT S\n*INSERT A.4\nLAST\n*DECK NEWD\nLINE\n",
+            last,
+        ],
+    )
+}
+
+#[test]
+fn yanks_and_purges_below_younger_sets_are_reported(rt: HostRuntime) -> Result<(), Fail> {
+    let alloc = rt.alloc();
+    let library = edited_by_many(alloc, "")?;
+    has_warnings(
+        alloc,
+        &library,
+        b"*IDENT Z\n*YANK P3\n",
+        "upd: 2: P8 switched P3.2, which this yank takes\nupd: 2: P8.1 follows P3.2, which this yank takes\n",
+    )?;
+    has_warnings(
+        alloc,
+        &library,
+        b"*PURGE P3\n",
+        "upd: 1: P8 switched P3.2, which this purge takes\nupd: 1: P8.1 follows P3.2, which this purge takes\n",
+    )?;
+    let taken = b"*IDENT Z\n*YANK P8,P3\n*YANK P3.P8\n*YANK P8\n*YANK Q\n";
+    has_warnings(alloc, &library, taken, "")?;
+    let yanked = edited_by_many(alloc, "*IDENT Y\n*YANK P8\n")?;
+    has_warnings(alloc, &yanked, b"*IDENT Z\n*YANK P3\n", "")
+}
+
+#[test]
+fn decks_that_a_yank_leaves_are_reported(rt: HostRuntime) -> Result<(), Fail> {
+    let alloc = rt.alloc();
+    let library = edited_by_many(alloc, "")?;
+    let stays = "upd: 2: NEWD came after S and stays: yank S,NEWD\n";
+    has_warnings(alloc, &library, b"*IDENT Z\n*YANK S\n", stays)?;
+    has_warnings(alloc, &library, b"*IDENT Z\n*YANK S,NEWD\n", "")?;
+    let decks = after(alloc, &["*DECK A\n", "*DECK B\n"])?;
+    has_warnings(alloc, &decks, b"*IDENT Z\n*YANK A\n", "")
+}
+
+#[test]
+fn an_empty_run_is_reported(rt: HostRuntime) -> Result<(), Fail> {
+    let alloc = rt.alloc();
+    expect_warnings(
+        alloc,
+        b"",
+        "upd: 1: the run is empty: it changes nothing, and uses its number\n",
+    )?;
+    expect_warnings(
+        alloc,
+        b"*/ note\n",
+        "upd: 1: dropped comments: 1, the first here\n\
+upd: 1: the run is empty: it changes nothing, and uses its number\n",
+    )
 }

@@ -43,6 +43,11 @@ impl Model for Name {
 
 impl Name {
     /// Reads a whole text as a name.
+    ///
+    /// ```text
+    /// b"ORBIT"  ORBIT
+    /// b"P1.2"   none: a period is between a name and a number
+    /// ```
     pub fn read(text: &[u8]) -> Option<Name>
         ensures name { IsSome result ↔ IsTrue (is_name text.now) }
         ensures value { IfSome result (λ n. n ≡ text.now) }

@@ -6,12 +6,11 @@ use std::alloc::Global;
 use std::io::ErrorKind;
 use std::test::Fail;
 use upd_deck::read_run;
-use upd_http::serve_one;
-use upd_spool::spool;
 use upd_testkit::check::{holds, same};
 use upd_testkit::fake_streams::{Narrow, Pieces};
 use upd_testkit::worked_spool::{ANSWERS, FIRST, SECOND, SPOOL, THIRD};
 use upd_text::{Fault, FaultKind};
+use upd_wire::{serve_one, spool};
 
 const RUN: &str = "*ID X cleanup\n*D A.2 , A.3 old lines\n*/ note\nNEW\n*FOO\n";
 

@@ -8,9 +8,9 @@ use std::io::{ErrorKind, Read, Write};
 use std::net::{Shutdown, SocketAddr, TcpListener, TcpStream};
 use std::test::Fail;
 use std::time::{Clock, Duration, Instant};
-use upd_http::{serve_on, serve_on_within};
 use upd_testkit::check::{holds, same};
 use upd_text::{Fault, FaultKind};
+use upd_wire::{serve_on, serve_on_within};
 
 /// A client that has written this.
 fn client_after(rt: &HostRuntime, address: SocketAddr, sent: &[u8]) -> io::Result<TcpStream> {

@@ -2,10 +2,10 @@
 use crate::list_desks::Lists;
 use std::alloc::Global;
 use std::test::Fail;
-use upd_http::serve_one;
 use upd_testkit::check::{holds, same};
 use upd_testkit::fake_streams::{Held, Pieces};
 use upd_text::Fault;
+use upd_wire::serve_one;
 
 /// The request of a run of no bytes.
 pub const QUICK: &str =

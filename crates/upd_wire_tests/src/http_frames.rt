@@ -3,10 +3,10 @@ use crate::http_desk::{QUICK, QUICK_ANSWER, expect_all, expect_read};
 use crate::list_desks::{Lists, empty_desk};
 use std::alloc::Global;
 use std::test::Fail;
-use upd_http::serve_one;
 use upd_testkit::check::same;
 use upd_testkit::fake_streams::Held;
 use upd_text::FaultKind;
+use upd_wire::serve_one;
 
 const EMPTY_LISTING: &str =
     "HTTP/1.1 200 OK\r\nContent-Type: text/plain\r\nContent-Length: 0\r\nConnection: close\r\n\r\n";

@@ -3,7 +3,7 @@ use std::alloc::Global;
 use std::mem;
 use std::test::Fail;
 use upd_desk::Desk;
-use upd_list_store::ListStore;
+use upd_memory::ListStore;
 use upd_testkit::check::same;
 use upd_testkit::stored_runs::is_stored;
 

@@ -11,7 +11,7 @@ use upd_compile::{CompileFile, Mode, compile_file, list_idents};
 use upd_core::{Library, Serial};
 use upd_deck::{Run, read_run};
 use upd_desk::{Arrival, Reply};
-use upd_list_store::ListStore;
+use upd_memory::ListStore;
 use upd_testkit::check::{holds, same, same_text};
 use upd_text::{Fault, FaultKind};
 

@@ -4,12 +4,11 @@ use crate::list_desks::{are_stored, desk_over};
 use std::alloc::Global;
 use std::io::ErrorKind;
 use std::test::Fail;
-use upd_http::serve_one;
-use upd_list_store::ListStore;
-use upd_spool::spool;
+use upd_memory::ListStore;
 use upd_testkit::check::{holds, same};
 use upd_testkit::fake_streams::Narrow;
 use upd_text::{Fault, FaultKind};
+use upd_wire::{serve_one, spool};
 
 const FRAMES: &str = "RUN LYON 1 full 22\n*DECK A\nONE\nTWO\nTHREE\n\n\
 RUN LYON 2 quick 0\n\nRUN LYON 3 full 21\n*IDENT X\n*DELETE A.3\n\n";

@@ -3,11 +3,11 @@ use crate::list_desks::{Lists, empty_desk};
 use std::alloc::Global;
 use std::io::{ErrorKind, Read, Write};
 use std::test::Fail;
-use upd_spool::spool;
 use upd_testkit::check::{same, same_text};
 use upd_testkit::fake_streams::{Held, Narrow, Pieces};
 use upd_testkit::worked_spool::{ANSWERS, SPOOL};
 use upd_text::Fault;
+use upd_wire::spool;
 
 /// Where the answers to each of the frames end.
 pub const ANSWER_ENDS: [usize; 4] = [0, 389, 482, 773];

@@ -2,7 +2,7 @@
 use crate::list_desks::desk_over;
 use std::alloc::Global;
 use std::test::Fail;
-use upd_list_store::ListStore;
+use upd_memory::ListStore;
 use upd_testkit::check::{holds, same_text};
 use upd_text::{Fault, FaultKind};
 

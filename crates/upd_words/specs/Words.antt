@@ -1,5 +1,5 @@
 -- What the words of a command line ask for, by the rules of `clap`.
-use Rattle.std.specs.Prelude.{◌≡◌, ℕ, ◌≤◌, ◌⊎◌, ◌==◌, true, false, List, [], ◌∷◌, codes, map, Some, IsSomeAnd, unwrap_or}
+use Rattle.std.specs.Prelude.{◌≡◌, ◌≢◌, ℕ, ◌≤◌, ◌⊎◌, ◌==◌, true, false, List, [], ◌∷◌, codes, map, Some, IsSomeAnd, Result, Ok, Err, unwrap_or}
 use Rattle.std.specs.Str.Parse.{IsNumeral, digits_value, without_leading_plus}
 use Rattle.std.specs.Option.{option_and_then, option_map}
 use Rattle.clap.specs.Simple.{new_shape}
@@ -11,10 +11,15 @@ use Rattle.clap.specs.declared.error.kind.ErrorKind.{ErrorKind}
 use Rattle.clap.specs.declared.error.kind.ErrorKind.TheVariants.{DisplayHelp, DisplayVersion}
 use Rattle.upd_text.specs.declared.fault.Fault.{Fault}
 use Rattle.upd_text.specs.declared.fault.FaultKind.TheVariants.{NoMemory}
+use Rattle.std.specs.Net.Grammar.{IsSocketText}
+use Rattle.upd_words.specs.Operands.{IsNoAddress, card_read, name_read, number_read}
 use Rattle.upd_words.specs.declared.words.Request.{Request}
-use Rattle.upd_words.specs.declared.words.Request.TheVariants.{Trial, Init, Library, Serve, Correct, Try, Runs, Sites, Backup, Examine, Migrate, Explain, Shown, Unread}
-use Rattle.upd_words.specs.declared.words.Asked.{Asked}
-use Rattle.upd_words.specs.declared.words.Asked.TheVariants as asks
+use Rattle.upd_words.specs.declared.words.Request.TheVariants.{Trial, Init, Library, Runs, Sites, Backup, Examine, Migrate, Explain, Shown, Unread, NoAddress}
+use Rattle.upd_words.specs.declared.words.Command.{Command}
+use Rattle.upd_words.specs.declared.words.Command.TheVariants.{Run, Settle, Spool, Serve, Correct, Try, Ask}
+use Rattle.upd_words.specs.declared.querying.Query.{Query}
+use Rattle.upd_words.specs.declared.querying.Query.TheVariants.{Compile, Deck, Card, Idents, Yanks, View}
+use Rattle.upd_words.specs.declared.querying.View.TheVariants.{Blame, Ident, Page, Text as PlainText, Source}
 
 -- an operand's name, and what its word has to be
 abbrev pub Operand : Type 0
@@ -66,6 +71,20 @@ abbrev pub IsOneOf : Text → List (Text × List Operand) → Type 0
 IsOneOf name [] = ⊥
 IsOneOf name (command ∷ commands) = (name ≡ command.0) ⊎ IsOneOf name commands
 
+-- a name is none of these
+abbrev pub IsOther : Text → List Text → Type 0
+IsOther name [] = Unit {0}
+IsOther name (other ∷ others) = (name ≢ other) × IsOther name others
+
+-- the commands that do not use the desk of a library, and `serve`
+abbrev pub file_commands : List Text
+file_commands =
+    codes "trial" ∷ codes "init" ∷ codes "serve" ∷ codes "runs" ∷ codes "sites" ∷ codes "backup" ∷ codes "examine" ∷ codes "migrate" ∷ codes "explain" ∷ []
+
+-- those that use it for more than a text about the library, but for `serve`
+abbrev pub desk_commands : List Text
+desk_commands = codes "run" ∷ codes "settle" ∷ codes "spool" ∷ codes "correct" ∷ codes "try" ∷ []
+
 -- the program before its first command; `clap` adds a command `help`
 abbrev pub upd_top : App
 upd_top = let app = new_app (codes "upd") in record app { top = record app.top { has_version = true; subcommand_required = true } }
@@ -93,39 +112,6 @@ operand_word name words = unwrap_or (option_and_then (first_of name) (option_map
 abbrev pub operand_in : Text → List Row → Text
 operand_in name rows = unwrap_or (first_of name rows) []
 
--- the command that asks this of the desk of a library
-abbrev pub asked_name : Asked → Text
-asked_name (asks.Run site number mode) = codes "run"
-asked_name (asks.Settle site number) = codes "settle"
-asked_name asks.Spool = codes "spool"
-asked_name asks.Compile = codes "compile"
-asked_name (asks.List deck) = codes "list"
-asked_name (asks.History card) = codes "history"
-asked_name (asks.Blame deck) = codes "blame"
-asked_name (asks.Show ident) = codes "show"
-asked_name asks.Idents = codes "idents"
-asked_name asks.Yanks = codes "yanks"
-asked_name asks.Page = codes "page"
-asked_name (asks.Text deck) = codes "text"
-asked_name (asks.Source deck) = codes "source"
-
--- its operands beside FILE, if it has any, are those in the matches
-abbrev pub HasOperands : List Row → Asked → Type 0
-HasOperands rows (asks.Run site number mode) =
-    (site.now ≡ operand_in (codes "SITE") rows) × (number.now ≡ operand_in (codes "NUMBER") rows) × (mode.now ≡ operand_in (codes "MODE") rows)
-HasOperands rows (asks.Settle site number) = (site.now ≡ operand_in (codes "SITE") rows) × (number.now ≡ operand_in (codes "NUMBER") rows)
-HasOperands rows (asks.List deck) = deck.now ≡ operand_in (codes "DECK") rows
-HasOperands rows (asks.History card) = card.now ≡ operand_in (codes "CARD") rows
-HasOperands rows (asks.Blame deck) = deck.now ≡ operand_in (codes "DECK") rows
-HasOperands rows (asks.Show ident) = ident.now ≡ operand_in (codes "IDENT") rows
-HasOperands rows (asks.Text deck) = deck.now ≡ operand_in (codes "DECK") rows
-HasOperands rows (asks.Source deck) = deck.now ≡ operand_in (codes "DECK") rows
-HasOperands rows _ = Unit {0}
-
--- what is asked of the desk of a library by the command of this name with these operands
-abbrev pub IsAskedBy : Text → List Row → Asked → Type 0
-IsAskedBy name rows asked = (name ≡ asked_name asked) × HasOperands rows asked
-
 -- a word spells this number of connections: a decimal number from 1 to a million, a plus before it or none
 abbrev pub IsCount : Text → ℕ → Type 0
 IsCount word n = IsNumeral 10 (without_leading_plus word) × (digits_value 10 (without_leading_plus word) ≡ n) × (1 ≤ n) × (n ≤ 1000000)
@@ -138,43 +124,100 @@ SpellsCount word = (n : ℕ) × IsCount word n
 abbrev pub HasCount : Text × List Row → Type 0
 HasCount (name, rows) = name ≡ codes "serve" → SpellsCount (operand_in (codes "COUNT") rows)
 
+-- the command that asks this of a library
+abbrev pub query_name : Query → Text
+query_name Compile = codes "compile"
+query_name (Deck name) = codes "list"
+query_name (Card card) = codes "history"
+query_name Idents = codes "idents"
+query_name Yanks = codes "yanks"
+query_name (View (Blame name)) = codes "blame"
+query_name (View (Ident name)) = codes "show"
+query_name (View Page) = codes "page"
+query_name (View (PlainText name)) = codes "text"
+query_name (View (Source name)) = codes "source"
+
+-- its operand beside FILE, if it has any, is read from the matches
+abbrev pub HasQueried : List Row → Query → Type 0
+HasQueried rows (Deck name) = name_read (operand_in (codes "DECK") rows) ≡ Ok name
+HasQueried rows (Card card) = card_read (operand_in (codes "CARD") rows) ≡ Ok card
+HasQueried rows (View (Blame name)) = name_read (operand_in (codes "DECK") rows) ≡ Ok name
+HasQueried rows (View (Ident name)) = name_read (operand_in (codes "IDENT") rows) ≡ Ok name
+HasQueried rows (View (PlainText name)) = name_read (operand_in (codes "DECK") rows) ≡ Ok name
+HasQueried rows (View (Source name)) = name_read (operand_in (codes "DECK") rows) ≡ Ok name
+HasQueried rows _ = Unit {0}
+
+-- the command's name, and its operands beside FILE
+abbrev pub command_name : Command → Text
+command_name (Run site number mode) = codes "run"
+command_name (Settle site number) = codes "settle"
+command_name Spool = codes "spool"
+command_name (Serve address count) = codes "serve"
+command_name (Correct set) = codes "correct"
+command_name (Try mode) = codes "try"
+command_name (Ask query) = query_name query
+
+abbrev pub HasOperands : List Row → Command → Type 0
+HasOperands rows (Run site number mode) = (site.now ≡ operand_in (codes "SITE") rows)
+    × (number_read (operand_in (codes "NUMBER") rows) ≡ Ok number) × (mode.now ≡ operand_in (codes "MODE") rows)
+HasOperands rows (Settle site number) =
+    (site.now ≡ operand_in (codes "SITE") rows) × (number_read (operand_in (codes "NUMBER") rows) ≡ Ok number)
+HasOperands rows Spool = Unit {0}
+HasOperands rows (Serve address count) =
+    IsSocketText (operand_in (codes "ADDRESS") rows) address × IsCount (operand_in (codes "COUNT") rows) count
+HasOperands rows (Correct set) = set.now ≡ operand_in (codes "SET") rows
+HasOperands rows (Try mode) = mode.now ≡ operand_in (codes "MODE") rows
+HasOperands rows (Ask query) = HasQueried rows query
+
 -- the command that a request is for
 abbrev pub request_name : Request → Text
 request_name (Trial mode) = codes "trial"
 request_name (Init file) = codes "init"
-request_name (Library file asked) = asked_name asked
-request_name (Serve file address count) = codes "serve"
-request_name (Correct file set) = codes "correct"
-request_name (Try file mode) = codes "try"
+request_name (Library file command) = command_name command
 request_name (Runs file) = codes "runs"
 request_name (Sites file) = codes "sites"
 request_name (Backup file copy) = codes "backup"
 request_name (Examine file) = codes "examine"
 request_name (Migrate file) = codes "migrate"
 request_name (Explain fault) = codes "explain"
+request_name (NoAddress word) = codes "serve"
 request_name _ = []
 
 -- its operands are those in the matches; a text for words that are not read is for no command
 abbrev pub AreOperands : List Row → Request → Type 0
 AreOperands rows (Trial mode) = mode.now ≡ operand_in (codes "MODE") rows
 AreOperands rows (Init file) = file.now ≡ operand_in (codes "FILE") rows
-AreOperands rows (Library file asked) = (file.now ≡ operand_in (codes "FILE") rows) × HasOperands rows asked
-AreOperands rows (Serve file address count) =
-    (file.now ≡ operand_in (codes "FILE") rows) × (address.now ≡ operand_in (codes "ADDRESS") rows)
-    × IsCount (operand_in (codes "COUNT") rows) count
-AreOperands rows (Correct file set) = (file.now ≡ operand_in (codes "FILE") rows) × (set.now ≡ operand_in (codes "SET") rows)
-AreOperands rows (Try file mode) = (file.now ≡ operand_in (codes "FILE") rows) × (mode.now ≡ operand_in (codes "MODE") rows)
+AreOperands rows (Library file command) = (file.now ≡ operand_in (codes "FILE") rows) × HasOperands rows command
 AreOperands rows (Runs file) = file.now ≡ operand_in (codes "FILE") rows
 AreOperands rows (Sites file) = file.now ≡ operand_in (codes "FILE") rows
 AreOperands rows (Backup file copy) = (file.now ≡ operand_in (codes "FILE") rows) × (copy.now ≡ operand_in (codes "COPY") rows)
 AreOperands rows (Examine file) = file.now ≡ operand_in (codes "FILE") rows
 AreOperands rows (Migrate file) = file.now ≡ operand_in (codes "FILE") rows
 AreOperands rows (Explain fault) = fault.now ≡ operand_in (codes "FAULT") rows
+AreOperands rows (NoAddress word) = (word.now ≡ operand_in (codes "ADDRESS") rows) × IsNoAddress word.now
 AreOperands rows _ = ⊥
 
 -- the request of the command of this name with these operands
 abbrev pub IsRequest : Text × List Row → Request → Type 0
 IsRequest (name, rows) request = (name ≡ request_name request) × AreOperands rows request
+
+-- a name is one of these
+abbrev pub IsNamed : Text → List Text → Type 0
+IsNamed name [] = ⊥
+IsNamed name (other ∷ others) = (name ≡ other) ⊎ IsNamed name others
+
+-- an operand of the command of this name is refused so
+abbrev pub IsRefused : Text × List Row → Fault → Type 0
+IsRefused (name, rows) fault =
+    (IsNamed name (codes "run" ∷ codes "settle" ∷ []) × (number_read (operand_in (codes "NUMBER") rows) ≡ Err fault))
+    ⊎ ((IsNamed name (codes "list" ∷ codes "blame" ∷ codes "text" ∷ codes "source" ∷ []) × (name_read (operand_in (codes "DECK") rows) ≡ Err fault))
+    ⊎ (((name ≡ codes "show") × (name_read (operand_in (codes "IDENT") rows) ≡ Err fault))
+    ⊎ ((name ≡ codes "history") × (card_read (operand_in (codes "CARD") rows) ≡ Err fault))))
+
+-- the command of this name with these operands is read, or one of them is refused
+abbrev pub IsRead : {A : Type 0} → (A → Type 0) → Text × List Row → Result A Fault → Type 0
+IsRead Right command (Ok x) = Right x
+IsRead Right command (Err fault) = IsRefused command fault
 
 -- a request for a text: help or the version
 abbrev pub AsksText : ErrorKind → Type 0
@@ -195,11 +238,16 @@ abbrev pub IsAskedFor : List Text → Request → Type 0
 IsAskedFor words request =
     IsCommand words request ⊎ ((kind : ErrorKind) × IsAmong kind (word_faults words) × IsUnreadRequest kind request)
 
+-- out of memory
+abbrev pub no_memory : Fault
+no_memory = record { kind = NoMemory; at = 0 }
+
+-- nothing is asked for: an operand of the command that the words name is refused so, or memory is out
+abbrev pub IsUnasked : List Text → Fault → Type 0
+IsUnasked words fault = (fault ≡ no_memory)
+    ⊎ ((word_faults words ≡ []) × IsSomeAnd (subcommand_of upd_app words) (λ command. IsRefused command fault))
+
 -- a word that does not begin with a hyphen
 abbrev pub IsPlain : Text → Type 0
 IsPlain [] = Unit {0}
 IsPlain (b ∷ bs) = (b == 45) ≡ false
-
--- out of memory
-abbrev pub no_memory : Fault
-no_memory = record { kind = NoMemory; at = 0 }

@@ -1,30 +1,48 @@
-//! The program as clap knows it: its commands with their operands.
+//! The program as clap knows it, and what `--help` says of it. What it says of a command stands beside the command: what it
+//! does, and below its words what it reads and writes, its exit statuses, and an example.
 ghost use Rattle.std.specs.Prelude.{[], ◌≡◌, IfOk, false, map, take};
 ghost use Rattle.clap.specs.Words.{app_of, rule_of, with_subcommand};
 ghost use Rattle.clap.specs.declared.builder.command.Command.TheViews.{out-Command as fields_of};
 ghost use Rattle.clap.specs.Simple.{new_app};
 ghost use Rattle.upd_words.specs.Words.{app_with, command_shape, operand_rule, upd_app, upd_commands, upd_top};
 
-use crate::help;
+use crate::keeping::{EXAMINE, EXPLAIN, MIGRATE, seventh_commands};
 use clap::builder::ValueParser;
 use clap::{Arg, ArgAction, Command};
 use std::alloc::{AllocError, Global};
 
 /// An operand's name, what help says of it, and what its word has to be.
-type Operand = (&'static str, &'static str, ValueParser<'static>);
+pub(crate) type Operand = (&'static str, &'static str, ValueParser<'static>);
 
-const FILE: Operand = ("FILE", "the file of a library", ValueParser::String);
+pub(crate) const FILE: Operand = ("FILE", "the file of a library", ValueParser::String);
 
-const SITE: Operand = ("SITE", "1 to 8 of A-Z and 0-9", ValueParser::String);
+pub(crate) const SITE: Operand = ("SITE", "1 to 8 of A-Z and 0-9", ValueParser::String);
 
-const NUMBER: Operand = ("NUMBER", "1 to 999999999", ValueParser::String);
+pub(crate) const NUMBER: Operand = ("NUMBER", "1 to 999999999", ValueParser::String);
 
-const MODE: Operand = ("MODE", "full, quick or normal", ValueParser::String);
+pub(crate) const MODE: Operand = ("MODE", "full, quick or normal", ValueParser::String);
 
-const DECK: Operand = ("DECK", "the name of a deck", ValueParser::String);
+pub(crate) const DECK: Operand = ("DECK", "the name of a deck", ValueParser::String);
 
-/// The number of connections that a command may serve.
-const COUNT_RANGE: ValueParser<'static> = ValueParser::Unsigned(1, 1_000_000);
+/// The help of a command.
+#[derive(Clone, Copy, Debug)]
+pub(crate) struct Text {
+    /// What the command does, in a line.
+    pub about: &'static str,
+    /// What it reads and writes, its exit statuses, and an example.
+    pub more: &'static str,
+}
+
+/// What the program is, what its words mean, and where to read on: the head of `upd --help`.
+const PROGRAM: &str = "\
+Keeps a library of program source in a file, and changes it by runs from many sites
+
+A library is a list of decks, with every correction that was ever made to them.
+A deck is a list of numbered cards under one name: the lines of one program, say.
+A run is a text of lines that adds decks and corrects cards; it acts whole or not at all.
+
+Begin with `upd init FILE`. `upd COMMAND --help` explains a command with an example; `man upd` lists
+the lines of a run and the faults; docs/tour.md in the repository shows a first session.";
 
 /// The program with its commands, one level deep.
 pub(crate) fn program<'a>(alloc: Global) -> Result<Command<'a>, AllocError>
@@ -36,128 +54,27 @@ pub(crate) fn program<'a>(alloc: Global) -> Result<Command<'a>, AllocError>
         ValueParser::String,
     );
     let app = seventh_commands(alloc)?;
-    let app = with_command(app, alloc, "examine", help::EXAMINE, &[FILE])?;
-    let app = with_command(app, alloc, "migrate", help::MIGRATE, &[FILE])?;
-    with_command(app, alloc, "explain", help::EXPLAIN, &[FAULT])
-}
-
-/// The program with its first twenty-one commands.
-fn seventh_commands<'a>(alloc: Global) -> Result<Command<'a>, AllocError>
-    ensures { IfOk result (λ c. app_of c ≡ app_with (take 21 upd_commands)) }
-{
-    const COPY: Operand = (
-        "COPY",
-        "the file to be made, which must not exist",
-        ValueParser::String,
-    );
-    let app = sixth_commands(alloc)?;
-    let app = with_command(app, alloc, "runs", help::RUNS, &[FILE])?;
-    let app = with_command(app, alloc, "sites", help::SITES, &[FILE])?;
-    with_command(app, alloc, "backup", help::BACKUP, &[FILE, COPY])
-}
-
-/// The program with its first eighteen commands.
-fn sixth_commands<'a>(alloc: Global) -> Result<Command<'a>, AllocError>
-    ensures { IfOk result (λ c. app_of c ≡ app_with (take 18 upd_commands)) }
-{
-    const SET: Operand = (
-        "SET",
-        "the name of a new correction set",
-        ValueParser::String,
-    );
-    let app = fifth_commands(alloc)?;
-    let app = with_command(app, alloc, "correct", help::CORRECT, &[FILE, SET])?;
-    let app = with_command(app, alloc, "try", help::TRY, &[FILE, MODE])?;
-    with_command(app, alloc, "source", help::SOURCE, &[FILE, DECK])
-}
-
-/// The program with its first fifteen commands.
-fn fifth_commands<'a>(alloc: Global) -> Result<Command<'a>, AllocError>
-    ensures { IfOk result (λ c. app_of c ≡ app_with (take 15 upd_commands)) }
-{
-    let app = fourth_commands(alloc)?;
-    let app = with_command(app, alloc, "yanks", help::YANKS, &[FILE])?;
-    let app = with_command(app, alloc, "page", help::PAGE, &[FILE])?;
-    with_command(app, alloc, "text", help::TEXT, &[FILE, DECK])
-}
-
-/// The program with its first twelve commands.
-fn fourth_commands<'a>(alloc: Global) -> Result<Command<'a>, AllocError>
-    ensures { IfOk result (λ c. app_of c ≡ app_with (take 12 upd_commands)) }
-{
-    const IDENT: Operand = (
-        "IDENT",
-        "the name of a deck or a correction set",
-        ValueParser::String,
-    );
-    let app = third_commands(alloc)?;
-    let app = with_command(app, alloc, "blame", help::BLAME, &[FILE, DECK])?;
-    let app = with_command(app, alloc, "show", help::SHOW, &[FILE, IDENT])?;
-    with_command(app, alloc, "idents", help::IDENTS, &[FILE])
-}
-
-/// The program with its first nine commands.
-fn third_commands<'a>(alloc: Global) -> Result<Command<'a>, AllocError>
-    ensures { IfOk result (λ c. app_of c ≡ app_with (take 9 upd_commands)) }
-{
-    const CARD: Operand = ("CARD", "a card, as A.2", ValueParser::String);
-    const ANY_DECK: Operand = (
-        "DECK",
-        "the name of a deck, or YANK$$$",
-        ValueParser::String,
-    );
-    let app = second_commands(alloc)?;
-    let app = with_command(app, alloc, "compile", help::COMPILE, &[FILE])?;
-    let app = with_command(app, alloc, "list", help::LIST, &[FILE, ANY_DECK])?;
-    with_command(app, alloc, "history", help::HISTORY, &[FILE, CARD])
-}
-
-/// The program with its first six commands.
-fn second_commands<'a>(alloc: Global) -> Result<Command<'a>, AllocError>
-    ensures { IfOk result (λ c. app_of c ≡ app_with (take 6 upd_commands)) }
-{
-    const ADDRESS: Operand = (
-        "ADDRESS",
-        "an IP address and a port, as 127.0.0.1:8080",
-        ValueParser::String,
-    );
-    const COUNT: Operand = (
-        "COUNT",
-        "how many connections are served, 1 to 1000000",
-        COUNT_RANGE,
-    );
-    let app = first_commands(alloc)?;
-    let app = with_command(app, alloc, "settle", help::SETTLE, &[FILE, SITE, NUMBER])?;
-    let app = with_command(app, alloc, "spool", help::SPOOL, &[FILE])?;
-    with_command(app, alloc, "serve", help::SERVE, &[FILE, ADDRESS, COUNT])
-}
-
-/// The program with its first three commands.
-fn first_commands<'a>(alloc: Global) -> Result<Command<'a>, AllocError>
-    ensures { IfOk result (λ c. app_of c ≡ app_with (take 3 upd_commands)) }
-{
-    let app = bare_program(alloc);
-    let app = with_command(app, alloc, "trial", help::TRIAL, &[MODE])?;
-    let app = with_command(app, alloc, "init", help::INIT, &[FILE])?;
-    with_command(app, alloc, "run", help::RUN, &[FILE, SITE, NUMBER, MODE])
+    let app = with_command(app, alloc, "examine", EXAMINE, &[FILE])?;
+    let app = with_command(app, alloc, "migrate", MIGRATE, &[FILE])?;
+    with_command(app, alloc, "explain", EXPLAIN, &[FAULT])
 }
 
 /// The program before its first command, and with clap's own command `help`.
-fn bare_program<'a>(alloc: Global) -> Command<'a>
+pub(crate) fn bare_program<'a>(alloc: Global) -> Command<'a>
     ensures { app_of result ≡ upd_top }
 {
     Command::new(alloc, "upd")
         .version("1.0")
-        .about(help::PROGRAM)
+        .about(PROGRAM)
         .subcommand_required(true)
 }
 
 /// A program with one command more.
-fn with_command<'a>(
+pub(crate) fn with_command<'a>(
     app: Command<'a>,
     alloc: Global,
     name: &'a str,
-    help: help::Text,
+    help: Text,
     operands: &[Operand],
 ) -> Result<Command<'a>, AllocError>
     ensures { IfOk result (λ c. app_of c
@@ -170,7 +87,7 @@ fn with_command<'a>(
 fn command<'a>(
     alloc: Global,
     name: &'a str,
-    help: help::Text,
+    help: Text,
     operands: &[Operand],
 ) -> Result<Command<'a>, AllocError>
     ensures app { IfOk result (λ c. app_of c ≡ record (new_app []) { top = command_shape name.entry.now (map (λ o. (o.0.now, o.2)) operands.now) }) }

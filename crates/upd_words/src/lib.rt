@@ -5,7 +5,11 @@
 #![tactic(auto)]
 
 mod app;
-mod help;
+mod changing;
+mod keeping;
+mod operands;
+mod querying;
 mod words;
 
-pub use words::{Asked, Request, read_words, serve_is_read, trial_is_read};
+pub use querying::{Query, View};
+pub use words::{Command, Request, read_words, serve_is_read, trial_is_read};

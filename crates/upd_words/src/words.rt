@@ -1,134 +1,93 @@
 //! What the words of a command line ask for.
-ghost use Rattle.std.specs.Prelude.{[], ◌∷◌, ◌≡◌, ◌≢◌, IfErr, IfOk, IfSome, IsSomeAnd, codes, map, true};
+ghost use Rattle.std.specs.Prelude.{[], ◌∷◌, ◌≡◌, IfErr, IfOk, IfSome, IsSomeAnd, codes, map, true, ◌≢◌};
 ghost use Rattle.clap.specs.Words.{Text, found_of, has_subcommand, kind_of, rows_of, subcommand_rows_of};
 ghost use Rattle.clap.specs.declared.error.kind.ErrorKind.TheVariants.{OutOfMemory, ValueValidation};
-ghost use Rattle.upd_words.specs.Words.{no_memory};
-ghost use Rattle.upd_words.specs.Words.{IsCount, SpellsCount};
-ghost use Rattle.upd_words.specs.Words.{HasCount, IsAskedBy, IsAskedFor, IsOneOf, IsPlain, IsRequest, IsUnreadRequest, command_word};
-ghost use Rattle.upd_words.specs.Words.{operand_in, operand_word, upd_commands, word_faults};
+ghost use Rattle.upd_words.specs.Words.{HasCount, HasOperands, IsAskedFor, IsOneOf, IsOther, IsPlain, IsRead, IsRequest};
+ghost use Rattle.upd_words.specs.Words.{IsUnasked, IsUnreadRequest, SpellsCount, command_name, command_word, file_commands};
+ghost use Rattle.upd_words.specs.Words.{no_memory, operand_in, operand_word, upd_commands, word_faults};
 
 use crate::app::program;
+use crate::operands::{count, number, read_address, word};
+use crate::querying::{Query, read_query};
 use clap::error::ErrorKind;
 use clap::{ArgMatches, Error};
 use std::alloc::{AllocError, Global};
 use std::convert::AsStr;
+use std::net::SocketAddr;
 use upd_text::Fault;
 
 /// What the words of a command line ask for.
 #[derive(Drop)]
 pub enum Request<'a> {
     /// `trial MODE`
-    Trial {
-        mode: &'a str,
-    },
+    Trial(&'a str),
     /// `init FILE`
-    Init {
-        file: &'a str,
-    },
-    /// A command that asks the desk of the library in a file.
-    Library {
-        file: &'a str,
-        asked: Asked<'a>,
-    },
-    /// `serve FILE ADDRESS COUNT`, its address as it was written.
-    Serve {
-        file: &'a str,
-        address: &'a str,
-        count: u32,
-    },
-    /// `correct FILE SET`
-    Correct {
-        file: &'a str,
-        set: &'a str,
-    },
-    /// `try FILE MODE`
-    Try {
-        file: &'a str,
-        mode: &'a str,
-    },
+    Init(&'a str),
+    /// A command at the desk of the library in a file.
+    Library { file: &'a str, command: Command<'a> },
     /// `runs FILE`
-    Runs {
-        file: &'a str,
-    },
+    Runs(&'a str),
     /// `sites FILE`
-    Sites {
-        file: &'a str,
-    },
+    Sites(&'a str),
     /// `backup FILE COPY`
-    Backup {
-        file: &'a str,
-        copy: &'a str,
-    },
+    Backup { file: &'a str, copy: &'a str },
     /// `examine FILE`
-    Examine {
-        file: &'a str,
-    },
+    Examine(&'a str),
     /// `migrate FILE`
-    Migrate {
-        file: &'a str,
-    },
+    Migrate(&'a str),
     /// `explain FAULT`
-    Explain {
-        fault: &'a str,
-    },
+    Explain(&'a str),
     /// Help or the version, which goes to the output.
     Shown(String),
     /// The words are not read: why, for the fault stream.
     Unread(String),
+    /// The address of `serve` is not valid.
+    NoAddress(&'a str),
 }
 
-/// What is asked of the desk of a library, its operands as they were written.
+/// What a command does at the desk of a library.
 #[derive(Drop)]
-pub enum Asked<'a> {
+pub enum Command<'a> {
     Run {
         site: &'a str,
-        number: &'a str,
+        number: u64,
         mode: &'a str,
     },
     Settle {
         site: &'a str,
-        number: &'a str,
+        number: u64,
     },
     Spool,
-    Compile,
-    List {
-        deck: &'a str,
+    Serve {
+        address: SocketAddr,
+        count: u32,
     },
-    History {
-        card: &'a str,
+    Correct {
+        set: &'a str,
     },
-    Blame {
-        deck: &'a str,
+    Try {
+        mode: &'a str,
     },
-    Show {
-        ident: &'a str,
-    },
-    Idents,
-    Yanks,
-    Page,
-    Text {
-        deck: &'a str,
-    },
-    Source {
-        deck: &'a str,
-    },
+    Ask(Query),
 }
 
-/// Reads the words of a command line, the program's own name first. The only error is NoMemory.
+/// Reads the words of a command line, the program's own name first. The fault is NoMemory, or that of an operand that is
+/// not valid.
 pub fn read_words<'a, S: AsStr>(alloc: Global, words: &'a [S]) -> Result<Request<'a>, Fault>
     ensures ok { IfOk result (IsAskedFor (map S.text words.entry.now)) }
-    ensures err { IfErr result (λ fault. fault ≡ no_memory) }
+    ensures err { IfErr result (IsUnasked (map S.text words.entry.now)) }
 {
     match program(alloc)?.try_get_matches_from(words) {
-        Ok(matches) => Ok(read_request(&matches)),
-        Err(error) => told(alloc, &error),
+        Ok(matches) => read_request(&matches),
+        Err(error) => unread_request(alloc, &error),
     }
 }
 
-fn read_request<'a>(matches: &ArgMatches<'a>) -> Request<'a>
+fn read_request<'a>(matches: &ArgMatches<'a>) -> Result<Request<'a>, Fault>
     requires used { has_subcommand matches.now ≡ true }
     requires known { IfSome (subcommand_rows_of matches.now) (λ command. IsOneOf command.0 upd_commands) }
-    ensures { IsSomeAnd (subcommand_rows_of matches.now) (λ command. HasCount command → IsRequest command result) }
+    ensures { IsSomeAnd (subcommand_rows_of matches.now)
+        (λ command. HasCount command → IsRead (IsRequest command) command result) }
 {
     match matches.subcommand() {
         Some((name, operands)) => read_command(name, operands),
@@ -137,120 +96,92 @@ fn read_request<'a>(matches: &ArgMatches<'a>) -> Request<'a>
 }
 
 /// What a command asks for.
-fn read_command<'a>(name: &str, operands: &ArgMatches<'a>) -> Request<'a>
+fn read_command<'a>(name: &str, operands: &ArgMatches<'a>) -> Result<Request<'a>, Fault>
     requires known { IsOneOf name.now upd_commands }
     ensures { HasCount (name.now, rows_of (found_of operands.now))
-        → IsRequest (name.now, rows_of (found_of operands.now)) result }
+        → IsRead (IsRequest (name.now, rows_of (found_of operands.now))) (name.now, rows_of (found_of operands.now)) result }
 {
     match name {
-        "trial" => Request::Trial {
-            mode: word(operands, "MODE"),
-        },
-        "init" => Request::Init {
-            file: word(operands, "FILE"),
-        },
-        "serve" => Request::Serve {
-            file: word(operands, "FILE"),
-            address: word(operands, "ADDRESS"),
-            count: count(operands),
-        },
-        "correct" => Request::Correct {
-            file: word(operands, "FILE"),
-            set: word(operands, "SET"),
-        },
-        "try" => Request::Try {
-            file: word(operands, "FILE"),
-            mode: word(operands, "MODE"),
-        },
-        "runs" => Request::Runs {
-            file: word(operands, "FILE"),
-        },
-        "sites" => Request::Sites {
-            file: word(operands, "FILE"),
-        },
-        "backup" => Request::Backup {
+        "trial" => Ok(Request::Trial(word(operands, "MODE"))),
+        "init" => Ok(Request::Init(word(operands, "FILE"))),
+        "serve" => Ok(read_serving(operands)),
+        "runs" => Ok(Request::Runs(word(operands, "FILE"))),
+        "sites" => Ok(Request::Sites(word(operands, "FILE"))),
+        "backup" => Ok(Request::Backup {
             file: word(operands, "FILE"),
             copy: word(operands, "COPY"),
-        },
-        "examine" => Request::Examine {
-            file: word(operands, "FILE"),
-        },
-        "migrate" => Request::Migrate {
-            file: word(operands, "FILE"),
-        },
-        "explain" => Request::Explain {
-            fault: word(operands, "FAULT"),
-        },
-        _ => Request::Library {
-            file: word(operands, "FILE"),
-            asked: read_asked(name, operands),
+        }),
+        "examine" => Ok(Request::Examine(word(operands, "FILE"))),
+        "migrate" => Ok(Request::Migrate(word(operands, "FILE"))),
+        "explain" => Ok(Request::Explain(word(operands, "FAULT"))),
+        _ => match read_desk_command(name, operands) {
+            Ok(command) => Ok(Request::Library {
+                file: word(operands, "FILE"),
+                command,
+            }),
+            Err(fault) => Err(fault),
         },
     }
 }
 
-/// What a command asks of the desk of a library.
-fn read_asked<'a>(name: &str, operands: &ArgMatches<'a>) -> Asked<'a>
+/// What `serve` asks for.
+fn read_serving<'a>(operands: &ArgMatches<'a>) -> Request<'a>
+    ensures { SpellsCount (operand_in (codes "COUNT") (rows_of (found_of operands.now)))
+        → IsRequest (codes "serve", rows_of (found_of operands.now)) result }
+{
+    let address = word(operands, "ADDRESS");
+    match read_address(address) {
+        Some(place) => Request::Library {
+            file: word(operands, "FILE"),
+            command: Command::Serve {
+                address: place,
+                count: count(operands),
+            },
+        },
+        None => Request::NoAddress(address),
+    }
+}
+
+/// What a command does at the desk of a library, but for `serve`.
+fn read_desk_command<'a>(name: &str, operands: &ArgMatches<'a>) -> Result<Command<'a>, Fault>
     requires known { IsOneOf name.now upd_commands }
-    requires other { (name.now ≢ codes "trial") × (name.now ≢ codes "init") × (name.now ≢ codes "serve")
-        × (name.now ≢ codes "correct") × (name.now ≢ codes "try") × (name.now ≢ codes "runs") × (name.now ≢ codes "sites")
-        × (name.now ≢ codes "backup") × (name.now ≢ codes "examine") × (name.now ≢ codes "migrate")
-        × (name.now ≢ codes "explain") }
-    ensures { IsAskedBy name.now (rows_of (found_of operands.now)) result }
+    requires other { IsOther name.now file_commands }
+    ensures { IsRead (λ command. (name.now ≡ command_name command) × HasOperands (rows_of (found_of operands.now)) command)
+        (name.now, rows_of (found_of operands.now)) result }
 {
     match name {
-        "run" => Asked::Run {
-            site: word(operands, "SITE"),
-            number: word(operands, "NUMBER"),
+        "run" => match number(operands) {
+            Ok(number) => Ok(Command::Run {
+                site: word(operands, "SITE"),
+                number,
+                mode: word(operands, "MODE"),
+            }),
+            Err(fault) => Err(fault),
+        },
+        "settle" => match number(operands) {
+            Ok(number) => Ok(Command::Settle {
+                site: word(operands, "SITE"),
+                number,
+            }),
+            Err(fault) => Err(fault),
+        },
+        "spool" => Ok(Command::Spool),
+        "correct" => Ok(Command::Correct {
+            set: word(operands, "SET"),
+        }),
+        "try" => Ok(Command::Try {
             mode: word(operands, "MODE"),
-        },
-        "settle" => Asked::Settle {
-            site: word(operands, "SITE"),
-            number: word(operands, "NUMBER"),
-        },
-        "spool" => Asked::Spool,
-        "compile" => Asked::Compile,
-        "list" => Asked::List {
-            deck: word(operands, "DECK"),
-        },
-        "history" => Asked::History {
-            card: word(operands, "CARD"),
-        },
-        "blame" => Asked::Blame {
-            deck: word(operands, "DECK"),
-        },
-        "show" => Asked::Show {
-            ident: word(operands, "IDENT"),
-        },
-        "idents" => Asked::Idents,
-        "yanks" => Asked::Yanks,
-        "page" => Asked::Page,
-        "text" => Asked::Text {
-            deck: word(operands, "DECK"),
-        },
-        _ => Asked::Source {
-            deck: word(operands, "DECK"),
+        }),
+        _ => match read_query(name, operands) {
+            Ok(query) => Ok(Command::Ask(query)),
+            Err(fault) => Err(fault),
         },
     }
-}
-
-/// The word of an operand, which is required.
-fn word<'a>(operands: &ArgMatches<'a>, name: &str) -> &'a str
-    ensures { result.now ≡ operand_in name.now (rows_of (found_of operands.now)) }
-{
-    operands.get_str(name).unwrap_or("")
-}
-
-/// The number of connections, which clap has let through.
-fn count(operands: &ArgMatches<'_>) -> u32
-    ensures { SpellsCount (operand_in (codes "COUNT") (rows_of (found_of operands.now)))
-        → IsCount (operand_in (codes "COUNT") (rows_of (found_of operands.now))) result }
-{
-    word(operands, "COUNT").parse::<u32>().unwrap_or(0)
 }
 
 /// What clap says where the words are not read or ask for a text.
-fn told<'a>(alloc: Global, error: &Error) -> Result<Request<'a>, Fault>
-    ensures ok { IfOk result (λ told. (kind_of error.now ≢ OutOfMemory) × IsUnreadRequest (kind_of error.now) told) }
+fn unread_request<'a>(alloc: Global, error: &Error) -> Result<Request<'a>, Fault>
+    ensures ok { IfOk result (λ request. (kind_of error.now ≢ OutOfMemory) × IsUnreadRequest (kind_of error.now) request) }
     ensures err { IfErr result (λ fault. fault ≡ no_memory) }
 {
     if error.kind() == ErrorKind::OutOfMemory {

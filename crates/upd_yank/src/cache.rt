@@ -21,7 +21,7 @@ use crate::cascade::{Before, update_statuses};
 use crate::renewing::renewed_decks;
 use crate::status_changes::tell;
 use crate::statuses::Statuses;
-use crate::touched::Touched;
+use crate::touched_set::Touched;
 use std::alloc::{AllocError, Global};
 use std::marker::Model;
 use upd_apply::Applied;

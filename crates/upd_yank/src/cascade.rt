@@ -17,7 +17,7 @@ ghost use Rattle.upd_yank.specs.Cascade.{ArePut, found_of_all};
 ghost use Rattle.upd_yank.specs.Right.{AreCountable, kept_status, was_active};
 
 use crate::statuses::Statuses;
-use crate::touched::Touched;
+use crate::touched_set::Touched;
 use std::alloc::{AllocError, Global};
 use upd_core::{CardRef, Counted, CountedCard, Entry, Serial, Target, TargetCounts};
 

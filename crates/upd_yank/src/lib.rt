@@ -10,6 +10,6 @@ pub mod laws;
 mod renewing;
 mod status_changes;
 mod statuses;
-mod touched;
+mod touched_set;
 
 pub use cache::Cache;

@@ -33,6 +33,6 @@ returns-clause-corrects c is =
       added = c.are_others.ensures.added others;
       count = c.are_others.ensures.count others ∙ count
           ∙ sym (length-map c.in_ok-added.added.items (λ (d : Bor NewDeck). d.now)) ∙ ap length c.in_ok-added.ensures;
-      texts = c.in_ok-same.ensures (live ∙ live_same c.args.before.now c.args.after.now (c.is_rest.ensures.yanks rest)) is;
+      texts = (c.in_ok-same.ensures (live ∙ live_same c.args.before.now c.args.after.now (c.is_rest.ensures.yanks rest))).0 is;
       cards = c.leave_cards.ensures cards;
     }

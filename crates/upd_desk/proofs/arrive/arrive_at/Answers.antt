@@ -83,7 +83,7 @@ returns-in-Ok-keep_new-clause-arrives g c =
     (λ honest rows shown. c.in_ok-mark.ensures.found honest rows shown ∙ ap (λ a. mark_at a.site rows) c.arrival.view_is)
     (λ honest rows shown. sym c.in-None.is ∙ c.in_ok-kept.ensures.found honest rows shown
     ∙ ap (λ a. run_at a.site a.number rows) c.arrival.view_is) honest)
-    c.in-Ok-keep_new.ensures.open c.in-Ok-keep_new.ensures.becomes c.in-Ok-keep_new.ensures.reply)
+    c.in-Ok-keep_new.ensures.opens c.in-Ok-keep_new.ensures.becomes c.in-Ok-keep_new.ensures.reply)
 
 pub returns-in-Err-keep_new-clause-arrives : goal.returns-in-Err-keep_new-clause-arrives
 returns-in-Err-keep_new-clause-arrives g c =
@@ -122,7 +122,7 @@ returns-in-Ok-keep_new-clause-work g c =
     (λ honest rows shown. c.in_ok-mark.ensures.found honest rows shown ∙ ap (λ a. mark_at a.site rows) c.arrival.view_is)
     (λ honest rows shown. sym c.in-None.is ∙ c.in_ok-kept.ensures.found honest rows shown
     ∙ ap (λ a. run_at a.site a.number rows) c.arrival.view_is) honest)
-    c.in-Ok-keep_new.ensures.open c.in-Ok-keep_new.ensures.work c.in-Ok-keep_new.ensures.least
+    c.in-Ok-keep_new.ensures.opens c.in-Ok-keep_new.ensures.work c.in-Ok-keep_new.ensures.least
 
 pub returns-in-Ok-clause-reads : goal.returns-in-Ok-clause-reads
 returns-in-Ok-clause-reads g c =
@@ -139,7 +139,7 @@ returns-in-Ok-keep_new-clause-reads g c = (
       (λ honest rows shown. c.in_ok-mark.ensures.found honest rows shown ∙ ap (λ a. mark_at a.site rows) c.arrival.view_is)
       (λ honest rows shown. sym c.in-None.is ∙ c.in_ok-kept.ensures.found honest rows shown
       ∙ ap (λ a. run_at a.site a.number rows) c.arrival.view_is) honest)
-      c.in-Ok-keep_new.ensures.open (c.in_ok-kept.ensures.leaves.unread ∙ c.in_ok-mark.ensures.leaves.unread) c.in-Ok-keep_new.ensures.reads,
+      c.in-Ok-keep_new.ensures.opens (c.in_ok-kept.ensures.leaves.unread ∙ c.in_ok-mark.ensures.leaves.unread) c.in-Ok-keep_new.ensures.reads,
   tt,
 )
 

@@ -15,7 +15,7 @@ returns-in_err-run-clause-lost g c =
 pub returns-in-Ok-clause-tries : goal.returns-in-Ok-clause-tries
 returns-in-Ok-clause-tries g c =
     commit_as_run c.args.mode c.args.arrival.now (map change_view c.deref.result.now) c.in_ok-run.run'
-    c.args.store.now c.run_outcome.new.store c.commit.new.self c.in_ok-outcome.ensures.same c.in-Ok.ensures.leaves.crash
+    c.args.store.now c.run_outcome.new.store c.commit.new.self c.in_ok-outcome.ensures.leaves.same c.in-Ok.ensures.leaves.crash
     (λ honest is l made rows shown shows states. outcome_adds c.args.mode c.args.arrival.now l rows c.in_ok-outcome.outcome
     (map change_view c.deref.result.now) c.in_ok-run.run' (c.in_ok-outcome.ensures.found honest l made rows shown shows states)
     (ap (map change_view) (sym c.deref.ensures.value)) c.in_ok-run.ensures.run)
@@ -23,7 +23,7 @@ returns-in-Ok-clause-tries g c =
 pub returns-in-Ok-clause-becomes : goal.returns-in-Ok-clause-becomes
 returns-in-Ok-clause-becomes g c =
     commit_becomes c.args.mode c.args.arrival.now (map change_view c.deref.result.now) c.in_ok-run.run'
-    c.args.store.now c.run_outcome.new.store c.commit.new.self c.in_ok-outcome.ensures.same c.in-Ok.ensures.leaves.crash c.in-Ok.ensures.leaves.opens
+    c.args.store.now c.run_outcome.new.store c.commit.new.self c.in_ok-outcome.ensures.leaves.same c.in-Ok.ensures.leaves.crash c.in-Ok.ensures.leaves.opens
     c.in-Ok.ensures.done
     (λ honest l made rows shown shows states. outcome_adds c.args.mode c.args.arrival.now l rows c.in_ok-outcome.outcome
     (map change_view c.deref.result.now) c.in_ok-run.run' (c.in_ok-outcome.ensures.found honest l made rows shown shows states)
@@ -49,7 +49,7 @@ returns-in-Ok-clause-reads g c honest l made rows shown shows =
 pub returns-in-Err-clause-tries : goal.returns-in-Err-clause-tries
 returns-in-Err-clause-tries g c =
     commit_as_run c.args.mode c.args.arrival.now (map change_view c.deref.result.now) c.in_ok-run.run'
-    c.args.store.now c.run_outcome.new.store c.commit.new.self c.in_ok-outcome.ensures.same c.in-Err.ensures.leaves.crash
+    c.args.store.now c.run_outcome.new.store c.commit.new.self c.in_ok-outcome.ensures.leaves.same c.in-Err.ensures.leaves.crash
     (λ honest is l made rows shown shows states. outcome_adds c.args.mode c.args.arrival.now l rows c.in_ok-outcome.outcome
     (map change_view c.deref.result.now) c.in_ok-run.run' (c.in_ok-outcome.ensures.found honest l made rows shown shows states)
     (ap (map change_view) (sym c.deref.ensures.value)) c.in_ok-run.ensures.run)

@@ -1,15 +1,20 @@
-use Rattle.std.proofs.Common.{ℕ, false, List, ap, sym, ◌∙◌, subst}
-use Rattle.upd_reply.specs.Texts.{AreShown, refused_text}
+use Rattle.std.proofs.Common.{ℕ, false, List, ap, refl, rules, sym, ◌∙◌, subst}
+use Rattle.upd_desk.specs.ReplyTexts.{AreShown, refused_text}
 use Rattle.upd_desk.specs.Arrivals.{ArrivalView}
 use Rattle.upd_desk.specs.Outcomes.{ReplyView}
 use Rattle.upd_desk.proofs.MadeLemmas.{passed}
 use Rattle.upd_desk.proofs.ShownLemmas.{site_shown, word_shown}
 use Rattle.upd_desk.proofs.outcome.refused.Goals as goal
 
-pub returns-clause-reply : goal.returns-clause-reply
-returns-clause-reply c = λ mode l entered.
-    let through = passed c.args.arrival.now mode entered in
-    let site = subst (λ (a : ArrivalView). AreShown a.site) (sym c.arrival.view_is) (site_shown c.args.arrival.now.site through.site) in
-    let word = subst (λ (a : ArrivalView). AreShown a.mode) (sym c.arrival.view_is) (word_shown c.args.arrival.now.mode mode through.word) in
-    let reply : List ℕ → ReplyView = λ text. record { accepted = false; text = text } in
-    ap reply (c.in_ok-text.ensures site word ∙ ap (λ (a : ArrivalView). refused_text a.site a.number a.mode c.args.fault) c.arrival.view_is)
+pub returns-clause-refusal : goal.returns-clause-refusal
+returns-clause-refusal c = record {
+  reply = λ mode l entered.
+      let through = passed c.args.arrival.now mode entered in
+      let site = subst (λ (a : ArrivalView). AreShown a.site) (sym c.arrival.view_is) (site_shown c.args.arrival.now.site through.site) in
+      let word = subst (λ (a : ArrivalView). AreShown a.mode) (sym c.arrival.view_is) (word_shown c.args.arrival.now.mode mode through.word) in
+      let reply : List ℕ → ReplyView = λ text. record { accepted = false; text = text } in
+      ap reply (c.in_ok-text.ensures site word ∙ ap (λ (a : ArrivalView). refused_text a.site a.number a.mode c.args.fault) c.arrival.view_is);
+  changes = c.new.ensures.items;
+  work = refl;
+  kind = search rules;
+}

@@ -24,6 +24,6 @@ returns-in_err-library-clause-file g c =
 
 pub returns-clause-failed : goal.returns-clause-failed
 returns-clause-failed g c =
-    c.in_ok-library.ensures.failed ∙ uncounted c.in-Err.fault.kind _
+    c.in_ok-library.ensures.leaves.failed ∙ uncounted c.in-Err.fault.kind _
     (λ is. unstored c.in-Err.fault (source_keeps c.args.name.now c.in_ok-library.library c.in-Err.fault
     (store_fails c.in-Err.fault (source c.args.name.now c.in_ok-library.library) is c.in-Err.ensures)) is)

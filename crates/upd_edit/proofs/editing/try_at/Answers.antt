@@ -29,6 +29,6 @@ returns-clause-refused g c = fails_owed c.in-Err.fault (check_arrival (tried c.a
 
 pub returns-clause-failed : goal.returns-clause-failed
 returns-clause-failed g c =
-    c.in_ok-library.ensures.failed ∙ uncounted c.in-Err.fault.kind _
+    c.in_ok-library.ensures.leaves.failed ∙ uncounted c.in-Err.fault.kind _
     (λ is. unstored c.in-Err.fault (tried_keeps c.args.mode.now c.args.run.now c.in-Err.fault
     (store_fails c.in-Err.fault (check_arrival (tried c.args.mode.now c.args.run.now)) is c.in-Err.ensures.refused)) is)

@@ -1,6 +1,5 @@
 use Rattle.upd_laws.proofs.soundness.directories_go_on.Goals as goal
-use Rattle.upd_laws.proofs.SoundIdentLemmas.{continues_unheld}
-use Rattle.upd_laws.proofs.SoundLeadLemmas.{step_goes}
+use Rattle.upd_apply.proofs.DirectoryLemmas.{continues_unheld, step_goes}
 use Rattle.upd_laws.proofs.SoundRunLemmas.{run_goes, runs_go}
 
 pub returns-clause-line : goal.returns-clause-line

@@ -3,7 +3,7 @@ use Rattle.sqlite.specs.Held.{state}
 use Rattle.upd_sqlite.specs.Stored.{HoldsAllRows}
 use Rattle.upd_sql.specs.Making.{Transforms}
 use Rattle.upd_sql.specs.LibraryTables.{HoldsTables}
-use Rattle.upd_migrate.specs.declared.version.Version.TheVariants.{First}
+use Rattle.upd_migrate.specs.declared.older_version.Version.TheVariants.{First}
 use Rattle.upd_migrate.specs.Migrated.{IsMigrated, HoldsAfter, completed}
 use Rattle.upd_migrate.specs.Older.{schema_of, stored_in}
 use Rattle.upd_migrate.proofs.Filled.{bare_rows, first_filled}

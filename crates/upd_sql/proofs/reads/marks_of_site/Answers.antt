@@ -19,17 +19,16 @@ found : {X : Type 0} (items : X → List Row) (site : List ℕ) (old new : State
 found items site old new (Ok rows) shown = λ it h. marks_found old new (items rows) it h site shown
 found items site old new (Err e) shown = tt
 
-pub returns-clause-was_open : goal.returns-clause-was_open
-returns-clause-was_open g c clean =
-    was_open_from (λ rows. rows.items) _ _ (state g.S.Store c.args.tx.now.conn.now) (state g.S.Store c.ask.new.tx.conn.now) c.ask.result
-    (c.ask.ensures.shown clean)
-
-pub returns-clause-found : goal.returns-clause-found
-returns-clause-found g c clean =
-    found (λ rows. rows.items) c.args.site.now (state g.S.Store c.args.tx.now.conn.now) (state g.S.Store c.ask.new.tx.conn.now) c.ask.result
-    (rw c.site.ensures at (c.ask.ensures.shown clean))
-
-pub returns-clause-same : goal.returns-clause-same
-returns-clause-same g c clean =
-    untouched (λ rows. rows.items) query.mark_of_site (Text c.args.site.now ∷ []) (state g.S.Store c.args.tx.now.conn.now)
-    (state g.S.Store c.ask.new.tx.conn.now) c.ask.result query.mark_of_site_plain (rw c.site.ensures at (c.ask.ensures.shown clean))
+pub returns-clause-looks : goal.returns-clause-looks
+returns-clause-looks g c = record {
+  steps = c.ask.ensures.steps;
+  was_open = λ clean.
+      was_open_from (λ rows. rows.items) _ _ (state g.S.Store c.args.tx.now.conn.now) (state g.S.Store c.ask.new.tx.conn.now) c.ask.result
+      (c.ask.ensures.shown clean);
+  same = λ clean.
+      untouched (λ rows. rows.items) query.mark_of_site (Text c.args.site.now ∷ []) (state g.S.Store c.args.tx.now.conn.now)
+      (state g.S.Store c.ask.new.tx.conn.now) c.ask.result query.mark_of_site_plain (rw c.site.ensures at (c.ask.ensures.shown clean));
+  found = λ clean.
+      found (λ rows. rows.items) c.args.site.now (state g.S.Store c.args.tx.now.conn.now) (state g.S.Store c.ask.new.tx.conn.now) c.ask.result
+      (rw c.site.ensures at (c.ask.ensures.shown clean));
+}

@@ -1,5 +1,5 @@
 use Rattle.std.proofs.Common.{rules, ℕ, List, Result, Ok, sym, ◌∙◌, subst}
-use Rattle.upd_io.proofs.InputLemmas.{some_input}
+use Rattle.upd_wire.proofs.InputLemmas.{some_input}
 use Rattle.upd_text.specs.declared.fault.Fault.{Fault}
 use Rattle.upd_text.specs.Outcome.{GivesAt}
 use Rattle.upd_compile.specs.File.{FileView}

@@ -1,7 +1,7 @@
 use Rattle.std.proofs.Common.{◌≡◌, true, false, List, [], Option, Some, None, IsSomeAnd, is_some, option_map, ap, subst}
 use Rattle.std.specs.Option.{option_map_or}
 use Rattle.clap.specs.Words.{Text, Row}
-use Rattle.upd_words.specs.Words.{HasCount, IsRequest}
+use Rattle.upd_words.specs.Words.{HasCount, IsRead, IsRequest}
 use Rattle.upd_words.proofs.words.read_request.Goals as goal
 
 -- what holds of the name and the rows of a subcommand holds of the subcommand
@@ -16,5 +16,5 @@ one_of name_of rows_of (Some b) name rows P named has holds =
 
 pub returns : goal.returns
 returns c =
-    one_of _ _ _ _ _ (λ command. HasCount command → IsRequest command c.read_command.result) c.in-Some.ensures.name c.in-Some.ensures.rows
+    one_of _ _ _ _ _ (λ command. HasCount command → IsRead (IsRequest command) command c.read_command.result) c.in-Some.ensures.name c.in-Some.ensures.rows
     c.read_command.ensures

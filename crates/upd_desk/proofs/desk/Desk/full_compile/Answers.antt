@@ -1,5 +1,5 @@
 -- What is expected of the active cards that were loaded is expected of the library after each journal that the store holds.
-use Rattle.std.proofs.Common.{[], Ok, Err, ap, inl, ◌∙◌}
+use Rattle.std.proofs.Common.{[], Ok, Err, ap, inl, refl, ◌∙◌}
 use Rattle.upd_compile.specs.File.{compile_file_of, file_of}
 use Rattle.upd_compile.specs.declared.mode.Mode.TheVariants.{Full}
 use Rattle.upd_row_store.proofs.KeepingLemmas.{uncounted}
@@ -27,11 +27,15 @@ returns-clause-text g c =
 pub returns-in_err-actives-clause-text : goal.returns-in_err-actives-clause-text
 returns-in_err-actives-clause-text g c honest journal held = rw (error_is _ _ c.from_residual.ensures.1) (inl c.in_err-actives.ensures.leaves.lost)
 
-pub returns-clause-failed : goal.returns-clause-failed
-returns-clause-failed g c =
-    c.in_ok-actives.ensures.leaves.failed ∙ uncounted c.in-Err.fault.kind _
-    (λ is. unstored c.in-Err.fault (compile_keeps Full [] c.in_ok-actives.actives c.in_ok-actives.actives c.in-Err.fault
-    (store_fails c.in-Err.fault (file_of Full [] c.in_ok-actives.actives c.in_ok-actives.actives) is c.in-Err.ensures)) is)
+pub returns-clause-leaves : goal.returns-clause-leaves
+returns-clause-leaves g c = record {
+  opens = λ honest. tt;
+  same = c.in_ok-actives.ensures.leaves.same;
+  failed = c.in_ok-actives.ensures.leaves.failed ∙ uncounted c.in-Err.fault.kind _
+      (λ is. unstored c.in-Err.fault (compile_keeps Full [] c.in_ok-actives.actives c.in_ok-actives.actives c.in-Err.fault
+      (store_fails c.in-Err.fault (file_of Full [] c.in_ok-actives.actives c.in_ok-actives.actives) is c.in-Err.ensures)) is);
+  idle = refl;
+}
 
 pub returns-clause-faults : goal.returns-clause-faults
 returns-clause-faults g c =

@@ -1,0 +1,9 @@
+use Rattle.std.proofs.Common.{◌≡◌, ◌++◌, drop}
+use Rattle.std.specs.List.{flat_map}
+use Rattle.upd_edit.specs.YankWarnings.{deck_warning}
+use Rattle.upd_edit.proofs.yank_warnings.Taking.push_decks_after.Given as goal
+
+abbrev pub invariant-loop-range : goal.invariant-loop-range
+invariant-loop-range l =
+    l.text.items ++ flat_map (deck_warning l.self.number l.self.word.now l.self.library.now l.self.ranges.now) (drop l.range-index l.self.ranges.now)
+    ≡ l.initial.text.items ++ flat_map (deck_warning l.self.number l.self.word.now l.self.library.now l.self.ranges.now) l.self.ranges.now

@@ -1,6 +1,0 @@
-use Rattle.upd_http.proofs.OwedLemmas.{told_is_owed}
-use Rattle.upd_http.proofs.laws.answers_are_owed.Goals as goal
-
-pub returns : goal.returns
-returns g c =
-    told_is_owed g.S.Meaning

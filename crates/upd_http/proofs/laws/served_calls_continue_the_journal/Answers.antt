@@ -1,6 +1,0 @@
-use Rattle.upd_http.proofs.ServedLemmas.{all_go_on}
-use Rattle.upd_http.proofs.laws.served_calls_continue_the_journal.Goals as goal
-
-pub returns : goal.returns
-returns g c =
-    all_go_on g.S.Meaning

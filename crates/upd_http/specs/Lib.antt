@@ -1,6 +1,0 @@
-pub mod Statuses
-pub mod Responses
-pub mod Views
-pub mod Serving
-pub mod Owed
-pub mod Served

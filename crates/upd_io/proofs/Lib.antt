@@ -1,2 +1,0 @@
-pub mod FrontLemmas
-pub mod InputLemmas

@@ -1,0 +1,26 @@
+use Rattle.std.proofs.Common.{refl, ap}
+use Rattle.sqlite.specs.Held.{state}
+use Rattle.upd_text.specs.declared.fault.Fault.{Fault}
+use Rattle.upd_row_store.specs.Keeping.{OfMemory, OfStore}
+use Rattle.upd_sql.proofs.Typed.{survives_itself}
+use Rattle.upd_keep.proofs.file_examination.examine_tables.Goals as goal
+
+pub returns-then-not-is_autocommit-clause-examines : goal.returns-then-not-is_autocommit-clause-examines
+returns-then-not-is_autocommit-clause-examines g c = record {
+  one = λ clean. tt;
+  found = λ clean. tt;
+  reads = record {
+    was_open = λ clean is_open. is_open;
+    same = λ clean is_open ours. refl;
+    crash = survives_itself (state g.S.Store c.args.conn.now) _;
+  };
+  lost = OfStore _ c.store_at.ensures.kind c.store_at.ensures.at;
+}
+
+pub returns-in-Ok-clause-examines : goal.returns-in-Ok-clause-examines
+returns-in-Ok-clause-examines g c = record {
+  one = λ clean. tt;
+  found = λ clean. tt;
+  reads = c.in-Ok.ensures.reads;
+  lost = OfMemory _ (ap (λ (f : Fault). f.kind) c.without_line.ensures) (ap (λ (f : Fault). f.at) c.without_line.ensures);
+}

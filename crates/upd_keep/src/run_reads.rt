@@ -1,0 +1,90 @@
+//! What is stored, read in a transaction that is rolled back.
+ghost use Rattle.std.specs.Prelude.{◌≡◌, false, IfErr, IfOk, IsTrue};
+ghost use Rattle.sqlite.specs.Held.{state};
+ghost use Rattle.sqlite.specs.State.{HasCleanDisk, Survives};
+ghost use Rattle.upd_records.specs.Rows.{Rows};
+ghost use Rattle.upd_row_store.specs.Keeping.{IsLost};
+ghost use Rattle.upd_sql.specs.LibraryTables.{ShowsTables};
+ghost use Rattle.upd_keep.specs.Keeping.{AreKept, HasRunLines, HasSiteLines};
+
+use crate::kept::Kept;
+use crate::run_tables::kept_in;
+use sqlite::{Connection, Error};
+use std::alloc::Global;
+use upd_sqlite::{Rising, begin};
+use upd_store::{fault_of, store_at};
+use upd_text::{Fault, FaultKind};
+use upd_views::{run_lines, site_lines};
+
+/// The stored runs by site and number, and the marks by site. Nothing changes.
+pub fn stored_kept<S: Rising>(conn: &mut Connection<S>, alloc: Global) -> Result<Kept, Error>
+    requires { conn.old.in_transaction ≡ false }
+    ensures outside { conn.new.in_transaction ≡ false }
+    ensures was_open { HasCleanDisk (state S.Store conn.new) → IsTrue (state S.Store conn.new).is_open
+        → IsTrue (state S.Store conn.old).is_open }
+    ensures same { HasCleanDisk (state S.Store conn.new) → IsTrue (state S.Store conn.new).is_open
+        → (state S.Store conn.new).committed ≡ (state S.Store conn.old).committed }
+    ensures survives { Survives (state S.Store conn.old) (state S.Store conn.new) (λ _. ⊥) }
+    ensures found { HasCleanDisk (state S.Store conn.new) → IfOk result
+        (λ kept. (it : Rows) → ShowsTables it (state S.Store conn.old).committed → AreKept it kept) }
+{
+    let mut tx = begin(conn);
+    let kept = kept_in(&mut tx, alloc)?;
+    tx.rollback();
+    Ok(kept)
+}
+
+/// The same, outside of a transaction. The fault is NoMemory or Store, at 0.
+fn kept<S: Rising>(alloc: Global, conn: &mut Connection<S>) -> Result<Kept, Fault>
+    ensures found { HasCleanDisk (state S.Store conn.new) → IfOk result
+        (λ kept. (it : Rows) → ShowsTables it (state S.Store conn.old).committed → AreKept it kept) }
+    ensures same { HasCleanDisk (state S.Store conn.new) → IsTrue (state S.Store conn.new).is_open
+        → (state S.Store conn.new).committed ≡ (state S.Store conn.old).committed }
+    ensures mode { conn.new.in_transaction ≡ conn.old.in_transaction }
+    ensures survives { Survives (state S.Store conn.old) (state S.Store conn.new) (λ _. ⊥) }
+    ensures lost { IfErr result IsLost }
+{
+    if !conn.is_autocommit() {
+        return Err(store_at(0));
+    }
+    match stored_kept(conn, alloc) {
+        Ok(kept) => Ok(kept),
+        Err(error) => Err(fault_of(error)),
+    }
+}
+
+/// The line of each stored run, by site and number. Nothing changes. The fault is NoMemory or Store, at 0; it is Store
+/// inside a transaction, and where the connection has no tables of a library.
+pub fn runs_text<S: Rising>(alloc: Global, conn: &mut Connection<S>) -> Result<Vec<u8>, Fault>
+    ensures found { HasCleanDisk (state S.Store conn.new) → IfOk result (λ text. (it : Rows)
+        → ShowsTables it (state S.Store conn.old).committed → HasRunLines it text.items) }
+    ensures same { HasCleanDisk (state S.Store conn.new) → IsTrue (state S.Store conn.new).is_open
+        → (state S.Store conn.new).committed ≡ (state S.Store conn.old).committed }
+    ensures mode { conn.new.in_transaction ≡ conn.old.in_transaction }
+    ensures survives { Survives (state S.Store conn.old) (state S.Store conn.new) (λ _. ⊥) }
+    ensures lost { IfErr result IsLost }
+{
+    let kept = kept(alloc, conn)?;
+    match run_lines(alloc, &kept.runs) {
+        Ok(text) => Ok(text),
+        Err(_) => Err(FaultKind::NoMemory.without_line()),
+    }
+}
+
+/// The line of each site that has a stored run or a mark, by the names of the sites. Nothing changes. The faults are
+/// those of `runs_text`.
+pub fn sites_text<S: Rising>(alloc: Global, conn: &mut Connection<S>) -> Result<Vec<u8>, Fault>
+    ensures found { HasCleanDisk (state S.Store conn.new) → IfOk result (λ text. (it : Rows)
+        → ShowsTables it (state S.Store conn.old).committed → HasSiteLines it text.items) }
+    ensures same { HasCleanDisk (state S.Store conn.new) → IsTrue (state S.Store conn.new).is_open
+        → (state S.Store conn.new).committed ≡ (state S.Store conn.old).committed }
+    ensures mode { conn.new.in_transaction ≡ conn.old.in_transaction }
+    ensures survives { Survives (state S.Store conn.old) (state S.Store conn.new) (λ _. ⊥) }
+    ensures lost { IfErr result IsLost }
+{
+    let kept = kept(alloc, conn)?;
+    match site_lines(alloc, &kept.runs, &kept.marks) {
+        Ok(text) => Ok(text),
+        Err(_) => Err(FaultKind::NoMemory.without_line()),
+    }
+}

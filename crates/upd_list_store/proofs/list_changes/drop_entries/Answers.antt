@@ -1,9 +1,0 @@
-use Rattle.std.proofs.Common.{Bool, not, rules}
-use Rattle.std.proofs.lemmas.Fn.{filter_same}
-use Rattle.upd_records.specs.Rows.{EntryRow, same_ref}
-use Rattle.upd_list_store.proofs.list_changes.drop_entries.Goals as goal
-
-pub returns : goal.returns
-returns c =
-    let stays : EntryRow → Bool = λ x. not (same_ref c.args.card.now x.card) in
-    filter_same _ stays _ (λ x b f k. search rules) _ _ c.retain.ensures.filtered

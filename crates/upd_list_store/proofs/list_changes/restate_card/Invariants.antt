@@ -1,6 +1,0 @@
-use Rattle.std.proofs.Common.{◌≡◌, map, take, drop, ◌++◌}
-use Rattle.upd_records.specs.Changes.{restated}
-use Rattle.upd_list_store.proofs.list_changes.restate_card.Given as goal
-
-abbrev pub invariant-loop-row : goal.invariant-loop-row
-invariant-loop-row l = l.states ≡ map (restated l.card l.active) (take l.row-index l.initial.states) ++ drop l.row-index l.initial.states

@@ -1,6 +1,0 @@
-use Rattle.std.proofs.Common.{refl}
-use Rattle.upd_row_store.proofs.StoreLemmas.{keeps_still, read_lost}
-use Rattle.upd_list_store.proofs.list_store.ListStoreRowStore.states_of.Goals as goal
-
-pub returns-in_err-states-clause-leaves : goal.returns-in_err-states-clause-leaves
-returns-in_err-states-clause-leaves c = read_lost c.from_residual.result _ _ c.from_residual.ensures.1 (keeps_still _) refl refl

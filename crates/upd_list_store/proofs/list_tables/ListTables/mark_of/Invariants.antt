@@ -1,7 +1,0 @@
-use Rattle.std.proofs.Common.{◌≡◌, drop}
-use Rattle.std.specs.List.{find}
-use Rattle.upd_row_store.specs.Tables.{is_mark_of}
-use Rattle.upd_list_store.proofs.list_tables.ListTables.mark_of.Given as goal
-
-abbrev pub invariant-loop-row : goal.invariant-loop-row
-invariant-loop-row l = find (is_mark_of l.site) (drop l.row-index l.self.settled) ≡ find (is_mark_of l.site) l.self.settled

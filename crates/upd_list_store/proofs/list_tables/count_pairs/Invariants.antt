@@ -1,6 +1,0 @@
-use Rattle.std.proofs.Common.{◌≡◌, map, take}
-use Rattle.upd_row_store.specs.Tables.{count_pair}
-use Rattle.upd_list_store.proofs.list_tables.count_pairs.Given as goal
-
-abbrev pub invariant-loop-row : goal.invariant-loop-row
-invariant-loop-row l = l.pairs.items ≡ map count_pair (take l.row-index l.rows)

@@ -1,3 +1,0 @@
-mod BlameLemmas
-mod EscapeLemmas
-pub mod ExplainLemmas

@@ -1,6 +1,0 @@
-use Rattle.std.proofs.Common.{◌≡◌, ◌++◌, drop}
-use Rattle.upd_look.specs.Escaped.{escaped}
-use Rattle.upd_look.proofs.escaping.push_escaped.Given as goal
-
-abbrev pub invariant-loop-byte : goal.invariant-loop-byte
-invariant-loop-byte l = l.page.items ++ escaped (drop l.byte-index l.text) ≡ l.initial.page.items ++ escaped l.text

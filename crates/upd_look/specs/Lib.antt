@@ -1,5 +1,0 @@
-pub mod Blame
-pub mod IdentReport
-pub mod FaultTexts
-pub mod Escaped
-pub mod LibraryPage

@@ -1,0 +1,11 @@
+mod NameOrderLemmas
+mod KeyedLemmas
+mod MapRowsLemmas
+mod StatusRowLemmas
+mod AskedLemmas
+mod MirrorLemmas
+mod ListLemmas
+mod LoadLemmas
+mod ActiveRowsLemmas
+mod MovedIdentLemmas
+mod WalkLemmas

@@ -1,0 +1,10 @@
+use Rattle.std.proofs.Common.{Bool, not, rules}
+use Rattle.std.proofs.lemmas.Fn.{filter_same}
+use Rattle.upd_core.specs.Targets.{is_same}
+use Rattle.upd_records.specs.Rows.{CountRow}
+use Rattle.upd_memory.proofs.list_changes.drop_count.Goals as goal
+
+pub returns : goal.returns
+returns c =
+    let stays : CountRow → Bool = λ x. not (is_same c.args.target x.target) in
+    filter_same _ stays _ (λ x b f k. search rules) _ _ c.retain.ensures.filtered

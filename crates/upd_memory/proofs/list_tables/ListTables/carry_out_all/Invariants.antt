@@ -1,0 +1,10 @@
+use Rattle.std.proofs.Common.{◌≡◌, map, drop}
+use Rattle.upd_records.specs.Changes.{change_view, done_all}
+use Rattle.upd_records.specs.Fits.{AllFit}
+use Rattle.upd_memory.proofs.list_tables.ListTables.carry_out_all.Given as goal
+
+abbrev pub invariant-loop-change : goal.invariant-loop-change
+invariant-loop-change l =
+    AllFit (map change_view l.changes) l.initial.self
+    → AllFit (map change_view (drop l.change-index l.changes)) l.self
+    × (done_all (map change_view (drop l.change-index l.changes)) l.self ≡ done_all (map change_view l.changes) l.initial.self)

@@ -1,0 +1,22 @@
+use Rattle.std.proofs.Common.{[], refl, subst, map, sym}
+use Rattle.upd_records.proofs.CountLemmas.{same_of}
+use Rattle.upd_records.specs.Rows.{IsSame}
+use Rattle.upd_row_store.specs.Tables.{count_pair}
+use Rattle.upd_memory.specs.Mirrored.{state_row}
+use Rattle.upd_memory.proofs.MirrorLemmas.{agrees_same}
+use Rattle.upd_memory.proofs.StatusRowLemmas.{states_read}
+use Rattle.upd_memory.proofs.made.of_rows.Goals as goal
+
+pub returns : goal.returns
+returns c = λ tables rows_are states_are.
+    let start = c.without_cards-mirror.ensures tables rows_are.idents rows_are.targets states_are.counts in
+    let one = c.in_ok-add_cards.ensures (record tables { cards = []; entries = []; states = [] }) start in
+    let two = c.in_ok-add_entries.ensures (record tables { cards = c.deref.result.now; entries = []; states = [] }) one in
+    let three = c.in_ok-add_states.ensures (record tables { cards = c.deref.result.now; entries = c.deref-2.result.now; states = [] }) two in
+    agrees_same c.add_states.new.self _ tables three (same_of tables.idents tables.idents refl)
+    (subst (λ xs. IsSame xs tables.cards) (sym c.deref.ensures.value) rows_are.cards)
+    (subst (λ xs. IsSame xs tables.entries) (sym c.deref-2.ensures.value) rows_are.entries)
+    (same_of tables.targets tables.targets refl)
+    (subst (λ xs. IsSame (map state_row xs) tables.states) (sym c.deref-3.ensures.value)
+    (states_read c.args.states.states.items tables.states states_are.states))
+    (same_of (map count_pair tables.counts) (map count_pair tables.counts) refl)

@@ -1,0 +1,7 @@
+use Rattle.std.proofs.Common.{◌++◌, take}
+use Rattle.upd_records.specs.Rows.{Rows}
+use Rattle.upd_memory.specs.Mirrored.{Agrees}
+use Rattle.upd_memory.proofs.mirror.Mirror.add_cards.Given as goal
+
+abbrev pub invariant-loop-card : goal.invariant-loop-card
+invariant-loop-card l = (rows : Rows) → Agrees l.initial.self rows → Agrees l.self (record rows { cards = rows.cards ++ take l.card-index l.cards })

@@ -1,0 +1,10 @@
+use Rattle.std.proofs.Common.{◌++◌, map, take}
+use Rattle.upd_records.specs.Rows.{Rows}
+use Rattle.upd_memory.specs.Mirrored.{Agrees, state_row}
+use Rattle.upd_memory.proofs.mirror.Mirror.add_states.Given as goal
+
+abbrev pub invariant-loop-state : goal.invariant-loop-state
+invariant-loop-state l = (rows : Rows) → Agrees l.initial.self rows → Agrees l.self (record rows {
+  states = rows.states
+      ++ map state_row (take l.state-index l.states);
+})

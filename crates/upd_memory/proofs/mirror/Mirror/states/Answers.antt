@@ -1,0 +1,12 @@
+use Rattle.std.proofs.Common.{◌∙◌, subst, sym, map}
+use Rattle.upd_records.specs.Rows.{IsSame}
+use Rattle.upd_row_store.specs.Tables.{count_pair, state_pair}
+use Rattle.upd_memory.proofs.StatusRowLemmas.{pairs_same}
+use Rattle.upd_memory.proofs.mirror.Mirror.states.Goals as goal
+
+pub returns-clause-read : goal.returns-clause-read
+returns-clause-read c = λ rows are. c.states_by_key.ensures.read rows (record {
+  states = subst (λ xs. IsSame xs (map state_pair rows.states)) (sym c.in_ok-states.ensures.pairs)
+      (pairs_same c.args.self.now.statuses rows.states c.in_ok-states.ensures.ordered are.states);
+  counts = subst (λ xs. IsSame xs (map count_pair rows.counts)) (sym (c.in_ok-counts.ensures.items ∙ c.deref.ensures.value)) are.counts;
+})

@@ -1,0 +1,6 @@
+use Rattle.std.proofs.Common.{refl}
+use Rattle.upd_row_store.proofs.StoreLemmas.{keeps_still, read_lost}
+use Rattle.upd_memory.proofs.mirror_store.MirrorStoreRowStore.load_states.Goals as goal
+
+pub returns-in_err-states-clause-leaves : goal.returns-in_err-states-clause-leaves
+returns-in_err-states-clause-leaves g c = read_lost c.from_residual.result _ _ c.from_residual.ensures.1 (keeps_still _) refl refl

@@ -1,0 +1,11 @@
+use Rattle.std.proofs.Common.{◌≡◌, nat_le, take}
+use Rattle.std.specs.Prelude.{◌&&◌, ◌||◌}
+use Rattle.std.specs.List.{list_any}
+use Rattle.upd_text.specs.declared.card_ref.CardRef.{CardRef}
+use Rattle.upd_row_store.specs.Movable.{is_listed}
+use Rattle.upd_memory.specs.MovedIdents.{is_from}
+use Rattle.upd_memory.proofs.moved_idents.list_cards.Given as goal
+
+abbrev pub invariant-loop-row : goal.invariant-loop-row
+invariant-loop-row l = (c : CardRef)
+    → is_listed l.movable c ≡ (is_listed l.initial.movable c || list_any (λ r. nat_le l.from r.pos && is_from r.card c) (take l.row-index l.rows))

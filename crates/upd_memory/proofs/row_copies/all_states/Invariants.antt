@@ -1,0 +1,6 @@
+use Rattle.std.proofs.Common.{◌≡◌, ◌++◌, map}
+use Rattle.upd_memory.specs.Mirrored.{state_row}
+use Rattle.upd_memory.proofs.row_copies.all_states.Given as goal
+
+abbrev pub invariant-loop-card : goal.invariant-loop-card
+invariant-loop-card l = l.rows.items ++ map state_row l.card-iterator ≡ map state_row l.statuses.entries

@@ -1,0 +1,223 @@
+//! Rows in memory, one table at a time.
+
+ghost use Rattle.std.specs.Prelude.{◌≡◌, ◌==◌, ◌∷◌, ◌++◌, ℕ, [], None};
+ghost use Rattle.std.specs.Prelude.{Some, false, not, if◌then◌else◌, map, length, OnOk};
+ghost use Rattle.std.specs.BTreeMap.{get};
+ghost use Rattle.std.specs.List.{filter};
+ghost use Rattle.std.specs.Ordering.{is_eq};
+ghost use Rattle.upd_text.specs.Order.{by_name};
+ghost use Rattle.upd_text.specs.declared.card_ref.CardRef.{CardRef};
+ghost use Rattle.upd_core.specs.Targets.{is_same};
+ghost use Rattle.upd_records.specs.Rows.{IsSame, same_ref};
+ghost use Rattle.upd_memory.specs.RowsByKey.{cards_at, entries_at, is_home, moved_place, placed_row};
+
+use std::alloc::{AllocError, Global};
+use std::collections::BTreeMap;
+use upd_core::{CardRef, Serial, Target};
+use upd_records::{CardRow, EntryRow, drop_card};
+
+// ---- counts, in any order
+
+/// Takes a target's count away.
+pub(crate) fn drop_count(counts: &mut Vec<(Target, u32)>, target: Target)
+    ensures { counts.new.items ≡ filter (λ p. not (is_same target p.0)) counts.old.items }
+{
+    counts.retain(|pair| target != pair.0);
+}
+
+// ---- cards, by deck
+
+/// Adds the row of a card, after those that are at its place or before it: rows that are by place stay so.
+fn insert_card(cards: &mut Vec<CardRow>, row: CardRow) -> Result<(), AllocError>
+    ensures { OnOk result (IsSame cards.new.items (cards.old.items ++ row ∷ [])) }
+{
+    let place = row.pos;
+    let at = cards.partition_point(|other| other.pos <= place);
+    cards.insert(at, row)?;
+    Ok(())
+}
+
+/// Adds the row of a card to those of its deck.
+pub(crate) fn add_card(
+    decks: &mut BTreeMap<Serial, Vec<CardRow>>,
+    row: CardRow,
+) -> Result<(), AllocError>
+    ensures { OnOk result ((d : ℕ) → IsSame (cards_at decks.new d)
+        (if row.deck == d then cards_at decks.old d ++ row ∷ [] else cards_at decks.old d)) }
+{
+    insert_card(decks.entry(row.deck)?.or_default(), row)
+}
+
+/// Takes a card's row out of a deck.
+fn drop_card_of(decks: &mut BTreeMap<Serial, Vec<CardRow>>, deck: Serial, card: &CardRef)
+    ensures { (d : ℕ) → cards_at decks.new d ≡ (if deck == d
+        then filter (λ r. not (same_ref card.now r.card)) (cards_at decks.old d) else cards_at decks.old d) }
+{
+    if let Some(cards) = decks.get_mut(&deck) {
+        drop_card(cards, card);
+    }
+}
+
+/// A place moved by a signed distance.
+fn moved(place: u32, by: i64) -> u32
+    ensures { result ≡ moved_place by place }
+{
+    let place = u64::from(place).saturating_add_signed(by);
+    match u32::try_from(place) {
+        Ok(place) => place,
+        Err(_) => u32::MAX,
+    }
+}
+
+/// Moves a card where it is in a deck at a place or after it.
+fn move_card(row: &mut CardRow, deck: Serial, from: u32, by: &i64)
+    ensures { row.new ≡ placed_row deck from by.now row.old }
+{
+    if row.deck == deck && from <= row.pos {
+        row.pos = moved(row.pos, *by);
+    }
+}
+
+/// Moves the cards of a deck that are at a place or after it.
+pub(crate) fn move_cards(cards: &mut [CardRow], deck: Serial, from: u32, by: &i64)
+    ensures { cards.new ≡ map (placed_row deck from by.now) cards.old }
+{
+    for row in cards.iter_mut() {
+        move_card(row, deck, from, by);
+    }
+}
+
+/// Moves the cards of a deck, of all decks, that are at a place or after it.
+pub(crate) fn move_cards_of(
+    decks: &mut BTreeMap<Serial, Vec<CardRow>>,
+    deck: Serial,
+    from: u32,
+    by: &i64,
+)
+    ensures { (d : ℕ) → cards_at decks.new d ≡ (if deck == d
+        then map (placed_row deck from by.now) (cards_at decks.old d) else cards_at decks.old d) }
+{
+    if let Some(cards) = decks.get_mut(&deck) {
+        move_cards(cards, deck, from, by);
+    }
+}
+
+// ---- the decks of cards
+
+/// Notes the deck of a card.
+pub(crate) fn put_home(
+    homes: &mut BTreeMap<CardRef, Serial>,
+    card: CardRef,
+    deck: Serial,
+) -> Result<(), AllocError>
+    ensures { OnOk result ((c : CardRef) (d : ℕ) → is_home homes.new c d
+        ≡ (if is_eq (by_name card c) then deck == d else is_home homes.old c d)) }
+{
+    homes.insert(card, deck)?;
+    Ok(())
+}
+
+/// A card is in no deck.
+pub(crate) fn drop_home(homes: &mut BTreeMap<CardRef, Serial>, card: &CardRef)
+    ensures { (c : CardRef) (d : ℕ) → is_home homes.new c d
+        ≡ (if is_eq (by_name card.now c) then false else is_home homes.old c d) }
+{
+    homes.remove(card);
+}
+
+/// The deck of a card.
+pub(crate) fn home_of(homes: &BTreeMap<CardRef, Serial>, card: &CardRef) -> Option<Serial>
+    ensures { result ≡ get by_name homes.now card.now }
+{
+    homes.get(card).copied()
+}
+
+/// Takes a card's row out of the deck that it is known to be in.
+pub(crate) fn drop_at_home(
+    decks: &mut BTreeMap<Serial, Vec<CardRow>>,
+    homes: &BTreeMap<CardRef, Serial>,
+    card: &CardRef,
+)
+    ensures { (d : ℕ) → cards_at decks.new d ≡ (if is_home homes.now card.now d
+        then filter (λ r. not (same_ref card.now r.card)) (cards_at decks.old d) else cards_at decks.old d) }
+{
+    if let Some(deck) = home_of(homes, card) {
+        drop_card_of(decks, deck, card);
+    }
+}
+
+// ---- statuses, by card
+
+/// Sets the status of a card.
+pub(crate) fn put_status(
+    statuses: &mut BTreeMap<CardRef, bool>,
+    card: CardRef,
+    active: bool,
+) -> Result<(), AllocError>
+    ensures { OnOk result ((c : CardRef) → get by_name statuses.new c
+        ≡ (if is_eq (by_name card c) then Some active else get by_name statuses.old c)) }
+{
+    statuses.insert(card, active)?;
+    Ok(())
+}
+
+/// Takes the status of a card away.
+pub(crate) fn drop_status(statuses: &mut BTreeMap<CardRef, bool>, card: &CardRef)
+    ensures { (c : CardRef) → get by_name statuses.new c
+        ≡ (if is_eq (by_name card.now c) then None else get by_name statuses.old c) }
+{
+    statuses.remove(card);
+}
+
+/// The status of a card.
+pub(crate) fn status_of(statuses: &BTreeMap<CardRef, bool>, card: &CardRef) -> Option<bool>
+    ensures { result ≡ get by_name statuses.now card.now }
+{
+    statuses.get(card).copied()
+}
+
+// ---- entries, by card
+
+/// Puts an entry as the only one of its card.
+fn put_entry(
+    alloc: Global,
+    entries: &mut BTreeMap<CardRef, Vec<EntryRow>>,
+    row: EntryRow,
+) -> Result<(), AllocError>
+    ensures { OnOk result ((c : CardRef) → entries_at entries.new c
+        ≡ (if is_eq (by_name row.card c) then row ∷ [] else entries_at entries.old c)) }
+{
+    let mut own = Vec::new(alloc);
+    own.push(row)?;
+    entries.insert(row.card, own)?;
+    Ok(())
+}
+
+/// Adds an entry to those of its card.
+pub(crate) fn add_entry(
+    alloc: Global,
+    entries: &mut BTreeMap<CardRef, Vec<EntryRow>>,
+    row: EntryRow,
+) -> Result<(), AllocError>
+    ensures { OnOk result ((c : CardRef) → entries_at entries.new c
+        ≡ (if is_eq (by_name row.card c) then entries_at entries.old row.card
+        ++ row ∷ [] else entries_at entries.old c)) }
+{
+    if let Some(own) = entries.get_mut(&row.card) {
+        own.push(row)?;
+        return Ok(());
+    }
+    put_entry(alloc, entries, row)
+}
+
+/// Takes a card's entries away, and returns how many there were.
+pub(crate) fn drop_entries(entries: &mut BTreeMap<CardRef, Vec<EntryRow>>, card: &CardRef) -> usize
+    ensures count { result ≡ length (entries_at entries.old card.now) }
+    ensures rest { (c : CardRef) → entries_at entries.new c
+        ≡ (if is_eq (by_name card.now c) then [] else entries_at entries.old c) }
+{
+    match entries.remove(card) {
+        Some(gone) => gone.len(),
+        None => 0,
+    }
+}

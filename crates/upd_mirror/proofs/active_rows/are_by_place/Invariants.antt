@@ -1,6 +1,0 @@
-use Rattle.std.proofs.Common.{◌≡◌, drop}
-use Rattle.upd_mirror.specs.ActiveRows.{rise_from}
-use Rattle.upd_mirror.proofs.active_rows.are_by_place.Given as goal
-
-abbrev pub invariant-loop-row : goal.invariant-loop-row
-invariant-loop-row l = rise_from l.last (drop l.row-index l.rows) ≡ rise_from 0 l.rows

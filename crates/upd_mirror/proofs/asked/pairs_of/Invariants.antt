@@ -1,8 +1,0 @@
-use Rattle.std.proofs.Common.{◌≡◌, take}
-use Rattle.std.specs.List.{flat_map}
-use Rattle.upd_mirror.specs.Walk.{AreFound}
-use Rattle.upd_mirror.specs.RowsByKey.{pairs_at}
-use Rattle.upd_mirror.proofs.asked.pairs_of.Given as goal
-
-abbrev pub invariant-loop-card : goal.invariant-loop-card
-invariant-loop-card l = (l.pairs.items ≡ flat_map (pairs_at l.statuses) (take l.card-index l.cards)) × AreFound l.statuses l.rest

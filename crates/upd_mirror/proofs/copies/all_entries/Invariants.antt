@@ -1,6 +1,0 @@
-use Rattle.std.proofs.Common.{◌≡◌, ◌++◌}
-use Rattle.std.specs.List.{flat_map}
-use Rattle.upd_mirror.proofs.copies.all_entries.Given as goal
-
-abbrev pub invariant-loop-own : goal.invariant-loop-own
-invariant-loop-own l = l.rows.items ++ flat_map (λ e. e.1.items) l.own-iterator ≡ flat_map (λ e. e.1.items) l.entries.entries

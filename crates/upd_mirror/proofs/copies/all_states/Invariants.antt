@@ -1,6 +1,0 @@
-use Rattle.std.proofs.Common.{◌≡◌, ◌++◌, map}
-use Rattle.upd_mirror.specs.Mirrored.{state_row}
-use Rattle.upd_mirror.proofs.copies.all_states.Given as goal
-
-abbrev pub invariant-loop-card : goal.invariant-loop-card
-invariant-loop-card l = l.rows.items ++ map state_row l.card-iterator ≡ map state_row l.statuses.entries

@@ -1,6 +1,0 @@
-use Rattle.std.proofs.Common.{◌≡◌, ◌+◌, length}
-use Rattle.std.specs.List.{flat_map}
-use Rattle.upd_mirror.proofs.copies.card_count.Given as goal
-
-abbrev pub invariant-loop-cards : goal.invariant-loop-cards
-invariant-loop-cards l = l.count + length (flat_map (λ e. e.1.items) l.cards-iterator) ≡ length (flat_map (λ e. e.1.items) l.decks.entries)

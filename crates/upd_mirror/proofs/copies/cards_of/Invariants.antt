@@ -1,9 +1,0 @@
-use Rattle.std.proofs.Common.{◌≡◌, ◌++◌, [], if◌then◌else◌}
-use Rattle.std.specs.List.{flat_map}
-use Rattle.upd_row_store.specs.PartRows.{is_loaded}
-use Rattle.upd_mirror.proofs.copies.cards_of.Given as goal
-
-abbrev pub invariant-loop-age : goal.invariant-loop-age
-invariant-loop-age l =
-    l.rows.items ++ flat_map (λ e. if is_loaded l.ages e.0 then e.1.items else []) l.age-iterator
-    ≡ flat_map (λ e. if is_loaded l.ages e.0 then e.1.items else []) l.decks.entries

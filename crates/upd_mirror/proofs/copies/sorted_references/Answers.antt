@@ -1,6 +1,0 @@
-use Rattle.std.proofs.Common.{subst}
-use Rattle.std.specs.List.Sorted.{IsPermutation}
-use Rattle.upd_mirror.proofs.copies.sorted_references.Goals as goal
-
-pub returns : goal.returns
-returns c = subst (λ xs. IsPermutation xs c.sort.new.self.items) c.in_ok-cards.ensures c.sort.ensures.permutation

@@ -1,5 +1,0 @@
-use Rattle.std.proofs.Common.{◌≡◌, ◌++◌}
-use Rattle.upd_mirror.proofs.from_memory.pairs_of.Given as goal
-
-abbrev pub invariant-loop-card : goal.invariant-loop-card
-invariant-loop-card l = l.pairs.items ++ l.card-iterator ≡ l.statuses.entries

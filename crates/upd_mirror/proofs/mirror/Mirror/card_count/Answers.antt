@@ -1,8 +1,0 @@
-use Rattle.std.proofs.Common.{◌∙◌}
-use Rattle.upd_mirror.proofs.LoadLemmas.{cards_all}
-use Rattle.upd_row_store.proofs.PartLemmas.{same_length}
-use Rattle.upd_mirror.proofs.mirror.Mirror.card_count.Goals as goal
-
-pub returns : goal.returns
-returns c = λ rows are.
-    c.in_ok-count.ensures.count ∙ same_length (cards_all c.args.self.now.decks rows.cards c.card_count.ensures.ordered are.cards)

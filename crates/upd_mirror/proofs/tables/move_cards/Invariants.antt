@@ -1,6 +1,0 @@
-use Rattle.std.proofs.Common.{◌≡◌, map, take, drop, ◌++◌}
-use Rattle.upd_mirror.specs.RowsByKey.{placed_row}
-use Rattle.upd_mirror.proofs.tables.move_cards.Given as goal
-
-abbrev pub invariant-loop-row : goal.invariant-loop-row
-invariant-loop-row l = l.cards ≡ map (placed_row l.deck l.from l.by) (take l.row-index l.initial.cards) ++ drop l.row-index l.initial.cards

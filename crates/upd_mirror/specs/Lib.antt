@@ -1,6 +1,0 @@
-pub mod ActiveRows
-pub mod RowsByKey
-pub mod Mirrored
-pub mod Overlaid
-pub mod MovedIdents
-pub mod Walk

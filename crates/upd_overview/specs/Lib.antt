@@ -1,2 +1,0 @@
-pub mod RunLines
-pub mod SiteLines

@@ -1,9 +1,0 @@
-use Rattle.std.proofs.Common.{◌≡◌, map, take}
-use Rattle.std.specs.Str.{IsUtf8}
-use Rattle.std.specs.List.{AllByRecursion}
-use Rattle.serde_json.specs.Data.{string}
-use Rattle.serde_json.specs.View.{view}
-use Rattle.upd_reply.proofs.values.names.Given as goal
-
-abbrev pub invariant-loop-ident : goal.invariant-loop-ident
-invariant-loop-ident l = AllByRecursion IsUtf8 l.idents → map view l.list.items ≡ map string (take l.ident-index l.idents)

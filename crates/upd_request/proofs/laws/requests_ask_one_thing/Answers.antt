@@ -1,8 +1,0 @@
-use Rattle.upd_request.proofs.SaysLemmas.{asked_is_whole, one_asked}
-use Rattle.upd_request.proofs.laws.requests_ask_one_thing.Goals as goal
-
-pub returns-clause-one : goal.returns-clause-one
-returns-clause-one c = one_asked
-
-pub returns-clause-whole : goal.returns-clause-whole
-returns-clause-whole c = asked_is_whole

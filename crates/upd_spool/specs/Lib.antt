@@ -1,4 +1,0 @@
-pub mod Header
-pub mod Frames
-pub mod Spools
-pub mod Exchange

@@ -1,5 +1,0 @@
-use Rattle.upd_row_store.specs.Keeping.{OfStore}
-use Rattle.upd_store.proofs.fault.fault_of.Goals as goal
-
-pub returns-in_default-clause-lost : goal.returns-in_default-clause-lost
-returns-in_default-clause-lost c = OfStore _ c.store_at.ensures.kind c.store_at.ensures.at

@@ -1,0 +1,12 @@
+use Rattle.std.proofs.Common.{inr, subst}
+use Rattle.upd_text.specs.declared.fault.Fault.{Fault}
+use Rattle.upd_subcommands.specs.Command.{IsReported}
+use Rattle.upd_subcommands.specs.Status.{exit_status, fault_line}
+use Rattle.upd_subcommands.proofs.correction_command.write_refusals.Goals as goal
+
+pub returns-clause-reported : goal.returns-clause-reported
+returns-clause-reported g c =
+    let IsLine : Fault → Type 0 =
+    λ fault. IsReported (exit_status fault.kind) (fault_line fault) c.finish.result (g.E.Write.contents c.args.faults.now)
+    (g.E.Write.contents c.finish.new.faults) in
+    inr (subst IsLine c.from.ensures c.finish.ensures.reported)

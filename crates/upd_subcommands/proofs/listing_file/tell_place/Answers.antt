@@ -1,9 +1,0 @@
-use Rattle.std.proofs.Common.{arith, inr, refl}
-use Rattle.std.proofs.lemmas.Grind.{common_steps}
-use Rattle.upd_io.proofs.FrontLemmas.{front_same}
-use Rattle.upd_subcommands.specs.ListingFile.{place_line}
-use Rattle.upd_subcommands.proofs.listing_file.tell_place.Goals as goal
-
-pub returns-in-Err-clause-told : goal.returns-in-Err-clause-told
-returns-in-Err-clause-told g c =
-    inr (refl, front_same _ _ _ (place_line c.args.name.now c.args.line c.args.what.now) (grind (arith, common_steps)) c.in-Err.ensures.front)

@@ -1,0 +1,147 @@
+-- What commands do at a desk: what the desk answers, and how that is reported.
+use Rattle.std.specs.Prelude.{◌≡◌, ◌<◌, ◌≤◌, ◌⊎◌, ℕ, List, [], length, Option, Result, Ok, Err, IfErr, IfOk, OnOk, IsErrAnd, IsOkAnd}
+use Rattle.std.specs.Io.KnownBytes.{Appends}
+use Rattle.std.specs.Result.{result_map_both}
+use Rattle.upd_text.specs.Faults.{fault_at}
+use Rattle.upd_text.specs.declared.fault.Fault.{Fault}
+use Rattle.upd_text.specs.declared.fault.FaultKind.TheVariants.{RunLong}
+use Rattle.upd_core.specs.Library.{LibraryView}
+use Rattle.upd_row_store.specs.declared.meaning.Meaning.{Ghosts}
+use Rattle.upd_row_store.specs.Keeping.{CountsFailure, Keeps}
+use Rattle.upd_compile.specs.File.{FileView, compile_file_of}
+use Rattle.upd_compile.specs.Listings.{card_listing, deck_listing, ident_listing, yank_listing}
+use Rattle.upd_compile.specs.declared.mode.Mode.TheVariants as mode
+use Rattle.upd_desk.specs.Holding.{Arrives, EachHeld, Settles, Tells}
+use Rattle.upd_desk.specs.Outcomes.{ReplyView, reply_on}
+use Rattle.upd_subcommands.specs.Command.{Ending, ending}
+use Rattle.upd_subcommands.specs.Status.{no_memory, read_failed}
+use Rattle.upd_subcommands.specs.Streams.{IsRunOn, Stream, after, before}
+use Rattle.upd_subcommands.specs.Correcting.{ReportsCorrection}
+use Rattle.upd_subcommands.specs.Reporting.{ReportsMark, ReportsRun, ReportsText, ReportsTried}
+use Rattle.upd_edit.specs.ActiveText.{active_text}
+use Rattle.upd_edit.specs.Source.{source}
+use Rattle.upd_edit.specs.Trying.{tried}
+use Rattle.upd_edit.specs.Warnings.{warning_lines}
+use Rattle.upd_edit.specs.declared.editing.TheConstants.{MAX_TEXT_BYTES}
+use Rattle.upd_edit.specs.EditCauses.{IsEditCause, IsEditLoss, failures_after_edit}
+use Rattle.upd_edit.specs.declared.editing.EditError.{EditError}
+use Rattle.upd_edit.specs.declared.editing.EditError.TheVariants.{Failed}
+use Rattle.upd_correct.specs.Correcting.{CorrectsTo}
+use Rattle.upd_correct.specs.Refusals.{refusals_of}
+use Rattle.upd_views.specs.Blame.{blame}
+use Rattle.upd_views.specs.IdentReport.{show}
+use Rattle.upd_views.specs.LibraryPage.{page}
+use Rattle.upd_desk.specs.Journal.{library_after}
+use Rattle.upd_wire.specs.Spools.{Ends}
+use Rattle.upd_wire.specs.Serving.{LeadsThrough, Made}
+use Rattle.upd_subcommands.specs.Listening.{ReportsPlace}
+use Rattle.upd_words.specs.declared.words.Command.{Command}
+use Rattle.upd_words.specs.declared.words.Command.TheVariants.{Run, Settle, Spool, Serve, Correct, Try, Ask}
+use Rattle.upd_words.specs.declared.querying.Query.{Query}
+use Rattle.upd_words.specs.declared.querying.Query.TheVariants.{Compile, Deck, Card, Idents, Yanks, View}
+use Rattle.upd_words.specs.declared.querying.View as views
+use Rattle.upd_words.specs.declared.querying.View.TheVariants as view
+
+-- the bytes of a compile file
+abbrev pub file_text : Result FileView Fault → Result (List ℕ) Fault
+file_text file = result_map_both (λ f. f.bytes) (λ fault. fault) file
+
+-- a view of a library
+abbrev pub view_text : views.View → LibraryView → Result (List ℕ) Fault
+view_text (view.Blame name) l = blame name l
+view_text (view.Ident name) l = show name l
+view_text view.Page l = Ok (page l)
+view_text (view.Text name) l = active_text name l
+view_text (view.Source name) l = file_text (source name l)
+
+-- what a query is answered of a library
+abbrev pub query_text : Query → LibraryView → Result (List ℕ) Fault
+query_text Compile l = file_text (compile_file_of mode.Full [] l l)
+query_text (Deck name) l = deck_listing name l
+query_text (Card card) l = card_listing card l
+query_text Idents l = Ok (ident_listing l)
+query_text Yanks l = Ok (yank_listing l)
+query_text (View view) l = view_text view l
+
+-- the input can't be read, or there is no memory for it
+abbrev pub IsUnread : Result ℕ Fault → Type 0
+IsUnread result = IsErrAnd result (λ fault. (fault ≡ no_memory) ⊎ (fault ≡ read_failed))
+
+module _ {S : Type 0} (meaning : Ghosts S) where
+  -- The run on the input arrived, and its answer was told; or the input wasn't read, and nothing was asked or told.
+  abbrev pub HandsIn : List ℕ → ℕ → List ℕ → Option (List ℕ) → Result ℕ Fault → S → S → Option (List ℕ) → Option (List ℕ) → Type 0
+  HandsIn site number mode input result old new output output' =
+      ((bytes : List ℕ) × (answer : Result ReplyView Fault) × IsRunOn input bytes
+      × Arrives meaning (record { site = site; number = number; mode = mode; bytes = bytes }) answer old new
+      × CountsFailure meaning answer old new × ReportsRun answer result output output')
+      ⊎ ((new ≡ old) × IsUnread result × Appends output output' [])
+
+  -- a run was tried: here are the reply that it would get and its warnings, and nothing is changed
+  pub record IsTriedAs (mode run : List ℕ) (answer : Result ReplyView Fault) (warnings : Result (List ℕ) Fault) (old new : S) : Type 0 where
+    pub reply : Tells meaning (reply_on (tried mode run)) answer old new
+    pub warns : Tells meaning (λ l. Ok (warning_lines run l)) warnings old new
+    pub same : Keeps meaning old new
+
+  -- a run was tried, and its reply and its warnings were told
+  abbrev pub TriesRun : List ℕ → List ℕ → S → S → Ending → Type 0
+  TriesRun mode run old new end =
+      (answer : Result ReplyView Fault) × (warnings : Result (List ℕ) Fault) × IsTriedAs mode run answer warnings old new
+      × ReportsTried answer warnings end
+
+  -- An edited text is answered by a run that leads decks of the library to it, or by what is wrong with it. A failure is a loss, or the text is too long.
+  -- Nothing is changed.
+  pub record IsCorrection (set text : List ℕ) (answer : Result (List ℕ) EditError) (old new : S) : Type 0 where
+    pub corrects : EachHeld meaning old new (λ journal. IfOk answer (CorrectsTo (library_after journal) set text))
+    pub clean : EachHeld meaning old new (λ journal. OnOk answer (refusals_of (library_after journal) set text ≡ []))
+    pub refused : EachHeld meaning old new (λ journal. IfErr answer (IsEditCause (library_after journal) set text))
+    pub lost : IfErr answer (IsEditLoss text)
+    pub short : OnOk answer (length text ≤ MAX_TEXT_BYTES)
+    pub long : MAX_TEXT_BYTES < length text → IfErr answer (λ error. error ≡ Failed (fault_at RunLong 0))
+    pub same : Keeps meaning old new
+    pub counts : meaning.failures_of new ≡ failures_after_edit answer (meaning.failures_of old)
+
+  -- an edited text was answered by a run, and the answer was told
+  abbrev pub CorrectsText : List ℕ → List ℕ → S → S → Ending → Type 0
+  CorrectsText set text old new end = (answer : Result (List ℕ) EditError) × IsCorrection set text answer old new × ReportsCorrection answer end
+
+  -- a site was settled, and its mark was told
+  abbrev pub SettlesSite : List ℕ → ℕ → Result ℕ Fault → S → S → Option (List ℕ) → Option (List ℕ) → Type 0
+  SettlesSite site number result old new output output' =
+      (answer : Result ℕ Fault) × Settles meaning site number answer old new
+      × CountsFailure meaning answer old new × ReportsMark site answer result output output'
+
+  -- a query was answered, and nothing is changed
+  pub record IsAnswered (query : Query) (answer : Result (List ℕ) Fault) (old new : S) : Type 0 where
+    pub tells : Tells meaning (query_text query) answer old new
+    pub same : Keeps meaning old new
+    pub counts : CountsFailure meaning answer old new
+
+  -- a query was answered, and the answer was told
+  abbrev pub AsksQuery : Query → Result ℕ Fault → S → S → Option (List ℕ) → Option (List ℕ) → Type 0
+  AsksQuery query result old new output output' = (answer : Result (List ℕ) Fault) × IsAnswered query answer old new × ReportsText answer result output output'
+
+  -- a spool was read to its end, and status 0 stands for any number of frames; or it ended by a fault
+  abbrev pub EndsSpool : Result ℕ Fault → S → S → Option (List ℕ) → Option (List ℕ) → Option (List ℕ) → Option (List ℕ) → Type 0
+  EndsSpool (Ok status) old new input input' output output' =
+      (status ≡ 0) × ((count : ℕ) × Ends meaning old new input input' output output' (Ok count))
+  EndsSpool (Err fault) old new input input' output output' = Ends meaning old new input input' output output' (Err fault)
+
+  -- At most this number of connections were served, all of them unless a read failed. Before them the fault stream got the address.
+  pub record EndsServing (count : ℕ) (ended : Result ℕ Fault) (old new : S) (faults faults' : Option (List ℕ)) : Type 0 where
+    pub leads : (made : List Made) × (length made ≤ count) × OnOk ended (length made ≡ count) × LeadsThrough meaning made old new
+    pub reports : (written : Result (Unit {0}) Fault) × ReportsPlace written faults faults'
+    pub status : IfOk ended (λ status. status ≡ 0)
+    pub err : IfErr ended (λ fault. fault ≡ read_failed)
+
+  -- a command was carried out at the desk of a library, over what was read first and streams, and what the desk answered was told
+  abbrev pub Does : {R W E : Type 0} → Command → List ℕ → Result ℕ Fault → S → S → Stream R → Stream W → Stream E → Type 0
+  Does (Run site number mode) text ended old new input output faults =
+      HandsIn site.now number mode.now (before input) ended old new (before output) (after output)
+  Does (Settle site number) text ended old new input output faults = SettlesSite site.now number ended old new (before output) (after output)
+  Does Spool text ended old new input output faults = EndsSpool ended old new (before input) (after input) (before output) (after output)
+  Does (Serve address count) text ended old new input output faults = EndsServing count ended old new (before faults) (after faults)
+  Does (Correct set) text ended old new input output faults =
+      IsOkAnd ended (λ status. CorrectsText set.now text old new (ending status (before output) (after output) (before faults) (after faults)))
+  Does (Try mode) text ended old new input output faults =
+      IsOkAnd ended (λ status. TriesRun mode.now text old new (ending status (before output) (after output) (before faults) (after faults)))
+  Does (Ask query) text ended old new input output faults = AsksQuery query ended old new (before output) (after output)

@@ -1,0 +1,127 @@
+//! Commands at the desk of a library.
+ghost use Rattle.std.specs.Prelude.{◌≡◌, ◌≤◌, ◌⊎◌, ◌+◌, List, Result, length, IfErr, IfOk, OnOk};
+ghost use Rattle.upd_wire.specs.Serving.{LeadsThrough, Made};
+ghost use Rattle.upd_subcommands.specs.DeskCommands.{Does, EndsSpool};
+ghost use Rattle.upd_subcommands.specs.Inputs.{HandsRuns, IsFirstRead, IsSpool, UsesFaults, ReadsFirst, WritesRefusals, most_read};
+ghost use Rattle.upd_subcommands.specs.Listening.{ReportsPlace};
+ghost use Rattle.upd_subcommands.specs.Status.{exit_status, no_memory, read_failed};
+ghost use Rattle.upd_subcommands.specs.Streams.{TakesFront, stream};
+ghost use Rattle.upd_text.specs.declared.fault.Fault.{Fault};
+ghost use Rattle.upd_text.specs.declared.limits.TheConstants.{MAX_RUN_BYTES};
+
+use crate::arriving::{hand_in, settle, try_run};
+use crate::correction_command::correct_text;
+use crate::exit_status::DONE;
+use crate::listening::report_place;
+use crate::queries::answer_query;
+use crate::streams::{read_front, read_input};
+use std::alloc::Global;
+use std::io::{Read, Write};
+use std::net::{SocketAddr, TcpListener};
+use upd_desk::Desk;
+use upd_edit::MAX_TEXT_BYTES;
+use upd_row_store::RowStore;
+use upd_text::{Fault, FaultKind};
+use upd_wire::{serve_on_within, spool};
+use upd_words::Command;
+
+/// What `try` and `correct` read of the input before the file is opened, so that it can come from a command on the same
+/// file. Nothing for another command.
+pub fn read_first<R: Read>(
+    alloc: Global,
+    command: &Command<'_>,
+    input: &mut R,
+) -> Result<Vec<u8>, Fault>
+    ensures read { IfOk result (λ text. IsFirstRead command.now (R.remaining input.old) (R.remaining input.new) text.items) }
+    ensures front { TakesFront (most_read command.now) (R.remaining input.old) (R.remaining input.new) }
+    ensures waits { ¬ ReadsFirst command.now → input.new ≡ input.old }
+    ensures first { IfErr result (λ _. ReadsFirst command.now) }
+    ensures err { IfErr result (λ fault. (fault ≡ no_memory) ⊎ (fault ≡ read_failed)) }
+{
+    match command {
+        Command::Try { .. } => read_input(alloc, input),
+        Command::Correct { .. } => read_front(alloc, input, MAX_TEXT_BYTES + 1),
+        _ => Ok(Vec::new(alloc)),
+    }
+}
+
+/// Carries a command out at a desk, over streams, and returns the exit status. `text` is what was read first.
+pub fn carry_out_at<S: RowStore, R: Read, W: Write, E: Write>(
+    rt: &HostRuntime,
+    desk: &mut Desk<S>,
+    command: &Command<'_>,
+    text: &[u8],
+    input: &mut R,
+    output: &mut W,
+    faults: &mut E,
+) -> Result<u8, Fault>
+    ensures does { Does S.Meaning command.now text.now result desk.old.store desk.new.store
+        (stream R.remaining input.old input.new) (stream W.contents output.old output.new)
+        (stream E.contents faults.old faults.new) }
+    ensures front { ¬ IsSpool command.now → TakesFront (MAX_RUN_BYTES + 1) (R.remaining input.old) (R.remaining input.new) }
+    ensures waits { ¬ HandsRuns command.now → input.new ≡ input.old }
+    ensures refused { IfOk result (λ status. (status ≡ 2) ⊎ ((status ≡ 1) × ¬ WritesRefusals command.now)
+        → output.new ≡ output.old) }
+    ensures failed { IfErr result (λ fault. exit_status fault.kind ≡ 1
+        → WritesRefusals command.now ⊎ (output.new ≡ output.old)) }
+    ensures clean { IfOk result (λ status. status ≡ 0 → ¬ UsesFaults command.now → faults.new ≡ faults.old) }
+    ensures quiet { IfErr result (λ _. ¬ UsesFaults command.now → faults.new ≡ faults.old) }
+{
+    let alloc = rt.alloc();
+    match command {
+        Command::Run { site, number, mode } => {
+            hand_in(alloc, desk, site, *number, mode, input, output)
+        }
+        Command::Settle { site, number } => settle(alloc, desk, site, *number, output),
+        Command::Spool => read_spool(alloc, desk, input, output),
+        Command::Serve { address, count } => serve(rt, *address, *count, desk, faults),
+        Command::Correct { set } => Ok(correct_text(alloc, desk, set, text, output, faults)),
+        Command::Try { mode } => Ok(try_run(alloc, desk, mode, text, output, faults)),
+        Command::Ask(query) => answer_query(alloc, desk, query, output),
+    }
+}
+
+/// The frames of a spool arrive one after the other, and their answers go to the output.
+fn read_spool<S: RowStore, R: Read, W: Write>(
+    alloc: Global,
+    desk: &mut Desk<S>,
+    input: &mut R,
+    output: &mut W,
+) -> Result<u8, Fault>
+    ensures ends { EndsSpool S.Meaning result desk.old.store desk.new.store
+        (R.remaining input.old) (R.remaining input.new) (W.contents output.old) (W.contents output.new) }
+    ensures status { IfOk result (λ status. status ≡ 0) }
+{
+    match spool(alloc, input, output, desk) {
+        Ok(_) => Ok(DONE),
+        Err(fault) => Err(fault),
+    }
+}
+
+/// Serves `count` connections at an address. Where it listens goes to `faults`; a failure of that doesn't end it.
+/// Read, at 0, where the address can't be bound.
+fn serve<S: RowStore, E: Write>(
+    rt: &HostRuntime,
+    address: SocketAddr,
+    count: u32,
+    desk: &mut Desk<S>,
+    faults: &mut E,
+) -> Result<u8, Fault>
+    ensures leads { (made : List Made) × (length made ≤ count) × OnOk result (length made ≡ count)
+        × LeadsThrough S.Meaning made desk.old.store desk.new.store }
+    ensures reports { (written : Result (Unit {0}) Fault)
+        × ReportsPlace written (E.contents faults.old) (E.contents faults.new) }
+    ensures status { IfOk result (λ status. status ≡ 0) }
+    ensures err { IfErr result (λ fault. fault ≡ read_failed) }
+{
+    match TcpListener::bind(rt, address) {
+        Ok(listener) => {
+            let _ = report_place(&listener, faults);
+            match serve_on_within(rt.alloc(), rt, &listener, count, desk) {
+                Ok(()) => Ok(DONE),
+                Err(fault) => Err(fault),
+            }
+        }
+        Err(_) => Err(FaultKind::Read.without_line()),
+    }
+}

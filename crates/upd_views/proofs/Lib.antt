@@ -1,0 +1,4 @@
+mod OverviewWords
+mod BlameLemmas
+mod EscapeLemmas
+pub mod ExplainLemmas

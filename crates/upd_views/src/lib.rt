@@ -1,0 +1,22 @@
+//! What whoever keeps a library asks of it: who switched the cards of a deck last, what an ident did, what a fault means,
+//! which runs and sites there are, and one page of all of it.
+//!
+//! Nothing changes. Each text is lines, each with LF.
+#![tactic(auto)]
+
+mod appending;
+pub mod deck_blame;
+pub mod escaping;
+pub mod fault_texts;
+pub mod ident_report;
+pub mod library_page;
+mod runs;
+mod sites;
+
+pub use deck_blame::{blame, texts_begin_in_one_column};
+pub use escaping::escaped_texts_have_no_markup;
+pub use fault_texts::{each_fault_has_one_text, explain};
+pub use ident_report::show;
+pub use library_page::{page, pages_need_nothing_outside};
+pub use runs::run_lines;
+pub use sites::site_lines;

@@ -1,0 +1,105 @@
+//! One line for each stored run.
+
+ghost use Rattle.std.specs.Prelude.{◌≡◌, ◌++◌, IfOk, OnOk, option_map};
+ghost use Rattle.serde_json.specs.View.{items_view, view};
+ghost use Rattle.upd_views.specs.RunLines.{idents_said, outcome, refusal_said, run_line, run_lines, said};
+ghost use Rattle.upd_views.specs.RunLines.{word_of, words_of};
+
+use itoa::Buffer;
+use serde_json::Value;
+use std::alloc::{AllocError, Global};
+use upd_compile::text_parts::push_parts;
+use upd_records::{RunRow, mode_word};
+
+/// The lines of runs, in the order in which they come: site, number, mode, and `accepted` with the idents that the run
+/// introduced, or the name of its refusal.
+pub fn run_lines(alloc: Global, runs: &[RunRow]) -> Result<Vec<u8>, AllocError>
+    ensures { IfOk result (λ text. text.items ≡ run_lines runs.now) }
+{
+    let mut text = Vec::new(alloc);
+    for run in runs {
+        push_run(alloc, &mut text, run)?;
+    }
+    Ok(text)
+}
+
+fn push_run(alloc: Global, text: &mut Vec<u8>, run: &RunRow) -> Result<(), AllocError>
+    ensures { OnOk result (text.new.items ≡ text.old.items ++ run_line run.now) }
+{
+    let value = said(alloc, &run.reply)?;
+    text.extend_from_slice(run.site.as_bytes())?;
+    text.extend_from_slice(b" ")?;
+    text.extend_from_slice(Buffer::new().format(run.number).as_bytes())?;
+    push_parts(text, &[b" ", mode_word(run.mode)])?;
+    push_outcome(text, run.accepted, value.as_ref())?;
+    text.extend_from_slice(b"\n")
+}
+
+/// The value of a reply, where it is one.
+fn said(alloc: Global, reply: &[u8]) -> Result<Option<Value>, AllocError>
+    ensures { IfOk result (λ value. option_map (λ v. view v) value ≡ said reply.now) }
+{
+    match Value::from_slice(alloc, reply) {
+        Ok(value) => Ok(Some(value)),
+        Err(error) => {
+            if error.is_memory() {
+                Err(AllocError)
+            } else {
+                Ok(None)
+            }
+        }
+    }
+}
+
+fn push_outcome(text: &mut Vec<u8>, accepted: bool, value: Option<&Value>) -> Result<(), AllocError>
+    ensures { OnOk result (text.new.items
+        ≡ text.old.items ++ outcome accepted (option_map (λ v. view v.now) value.entry)) }
+{
+    if accepted {
+        text.extend_from_slice(b" accepted")?;
+        push_idents(text, value)
+    } else {
+        push_refusal(text, value)
+    }
+}
+
+fn push_idents(text: &mut Vec<u8>, value: Option<&Value>) -> Result<(), AllocError>
+    ensures { OnOk result (text.new.items
+        ≡ text.old.items ++ idents_said (option_map (λ v. view v.now) value.entry)) }
+{
+    match value
+        .and_then(|value| value.get("idents"))
+        .and_then(Value::as_array)
+    {
+        Some(items) => push_words(text, items),
+        None => Ok(()),
+    }
+}
+
+fn push_refusal(text: &mut Vec<u8>, value: Option<&Value>) -> Result<(), AllocError>
+    ensures { OnOk result (text.new.items
+        ≡ text.old.items ++ refusal_said (option_map (λ v. view v.now) value.entry)) }
+{
+    match value.and_then(|value| value.get("name")) {
+        Some(name) => push_word(text, name),
+        None => text.extend_from_slice(b" refused"),
+    }
+}
+
+fn push_words(text: &mut Vec<u8>, items: &[Value]) -> Result<(), AllocError>
+    ensures { OnOk result (text.new.items ≡ text.old.items ++ words_of (items_view items.now)) }
+{
+    for item in items {
+        push_word(text, item)?;
+    }
+    Ok(())
+}
+
+fn push_word(text: &mut Vec<u8>, value: &Value) -> Result<(), AllocError>
+    ensures { OnOk result (text.new.items ≡ text.old.items ++ word_of (view value.now)) }
+{
+    match value.as_str() {
+        Some(word) => push_parts(text, &[b" ", word.as_bytes()]),
+        None => Ok(()),
+    }
+}

@@ -1,0 +1,151 @@
+//! One line for each site.
+
+ghost use Rattle.std.specs.Prelude.{◌≡◌, ◌++◌, map, IfOk, IsPermutation, OnOk};
+ghost use Rattle.upd_views.specs.SiteLines.{AreBySite, AreSiteLines, joined, lines_from, lines_of, next_number};
+ghost use Rattle.upd_views.specs.SiteLines.{of_mark, of_run, site_line};
+
+use itoa::Buffer;
+use std::alloc::{AllocError, Global};
+use std::marker::Model;
+use upd_records::{MarkRow, RunRow};
+/// The greatest number of a run.
+const MAX_NUMBER: u64 = 999_999_999;
+
+/// What is known of a site.
+#[derive(Debug, Drop)]
+struct Site<'a> {
+    site: &'a str,
+    mark: u64,
+    /// The greatest of its mark and the numbers of its stored runs.
+    greatest: u64,
+}
+
+impl<'a> Model for Site<'a> {
+    ghost use Rattle.upd_views.specs.SiteLines.{SiteView};
+
+    ghost Value = { SiteView };
+
+    ghost view = { λ s. record { site = s.site.now; mark = s.mark; greatest = s.greatest } };
+}
+
+impl<'a> Site<'a> {
+    fn copy(&self) -> Site<'a>
+        ensures { result ≡ self.now }
+    {
+        Site {
+            site: self.site,
+            mark: self.mark,
+            greatest: self.greatest,
+        }
+    }
+}
+
+/// The line of each site that has a stored run or a mark, by their names: the site, its mark, the greatest number that
+/// is taken by its mark or by a stored run, and the next number, `none` where there is no greater one.
+pub fn site_lines(alloc: Global, runs: &[RunRow], marks: &[MarkRow]) -> Result<Vec<u8>, AllocError>
+    ensures { IfOk result (λ text. AreSiteLines runs.now marks.now text.items) }
+{
+    let mut sites = Vec::new(alloc);
+    push_runs(&mut sites, runs)?;
+    push_marks(&mut sites, marks)?;
+    let sites = by_site(sites);
+    let mut text = Vec::new(alloc);
+    push_lines(&mut text, &sites)?;
+    Ok(text)
+}
+
+fn push_runs<'a>(sites: &mut Vec<Site<'a>>, runs: &'a [RunRow]) -> Result<(), AllocError>
+    ensures { OnOk result (sites.new.items ≡ sites.old.items ++ map of_run runs.now) }
+{
+    for run in runs {
+        sites.push(Site {
+            site: run.site.as_str(),
+            mark: 0,
+            greatest: run.number,
+        })?;
+    }
+    Ok(())
+}
+
+fn push_marks<'a>(sites: &mut Vec<Site<'a>>, marks: &'a [MarkRow]) -> Result<(), AllocError>
+    ensures { OnOk result (sites.new.items ≡ sites.old.items ++ map of_mark marks.now) }
+{
+    for row in marks {
+        sites.push(Site {
+            site: row.site.as_str(),
+            mark: row.mark,
+            greatest: row.mark,
+        })?;
+    }
+    Ok(())
+}
+
+fn by_site(sites: Vec<Site<'_>>) -> Vec<Site<'_>>
+    ensures permutation { IsPermutation sites.entry.items result.items }
+    ensures sorted { AreBySite result.items }
+{
+    let mut sites = sites;
+    sites.sort_unstable_by(|a, b| a.site.cmp(b.site));
+    sites
+}
+
+fn push_lines(text: &mut Vec<u8>, sites: &[Site<'_>]) -> Result<(), AllocError>
+    ensures { OnOk result (text.new.items ≡ text.old.items ++ lines_of sites.now) }
+{
+    match sites.split_first() {
+        Some((first, others)) => push_lines_from(text, first.copy(), others),
+        None => Ok(()),
+    }
+}
+
+fn push_lines_from<'a>(
+    text: &mut Vec<u8>,
+    first: Site<'a>,
+    others: &[Site<'a>],
+) -> Result<(), AllocError>
+    ensures { OnOk result (text.new.items ≡ text.old.items ++ lines_from first.entry others.now) }
+{
+    let mut site = first;
+    for other in others {
+        if other.site == site.site {
+            site = joined(&site, other);
+        } else {
+            push_site(text, &site)?;
+            site = other.copy();
+        }
+    }
+    push_site(text, &site)
+}
+
+fn joined<'a>(a: &Site<'a>, b: &Site<'a>) -> Site<'a>
+    ensures { result ≡ joined a.now b.now }
+{
+    Site {
+        site: a.site,
+        mark: a.mark.max(b.mark),
+        greatest: a.greatest.max(b.greatest),
+    }
+}
+
+fn push_site(text: &mut Vec<u8>, site: &Site<'_>) -> Result<(), AllocError>
+    ensures { OnOk result (text.new.items ≡ text.old.items ++ site_line site.entry.now) }
+{
+    text.extend_from_slice(site.site.as_bytes())?;
+    text.extend_from_slice(b" ")?;
+    text.extend_from_slice(Buffer::new().format(site.mark).as_bytes())?;
+    text.extend_from_slice(b" ")?;
+    text.extend_from_slice(Buffer::new().format(site.greatest).as_bytes())?;
+    text.extend_from_slice(b" ")?;
+    push_next(text, site.greatest)?;
+    text.extend_from_slice(b"\n")
+}
+
+fn push_next(text: &mut Vec<u8>, greatest: u64) -> Result<(), AllocError>
+    ensures { OnOk result (text.new.items ≡ text.old.items ++ next_number greatest) }
+{
+    if greatest < MAX_NUMBER {
+        text.extend_from_slice(Buffer::new().format(greatest + 1).as_bytes())
+    } else {
+        text.extend_from_slice(b"none")
+    }
+}

@@ -1,0 +1,46 @@
+-- Heads that are read.
+use Rattle.std.proofs.Common.{◌≡◌, ◌≢◌, ◌⊎◌, ◌≤◌, ◌<◌, inl, inr, ℕ, List, [], ◌++◌, length, Option, refl, ap, arith}
+use Rattle.std.proofs.lemmas.List.{length-append}
+use Rattle.std.specs.Io.KnownBytes.{Consumes}
+use Rattle.httparse.specs.declared.Error.{Error}
+use Rattle.httparse.specs.declared.Error.TheVariants.{HeaderName, HeaderValue, NewLine, Status, Token, TooManyHeaders, Version}
+use Rattle.httparse.specs.Grammar.{HasNoRequest, NeverHasRequest, print_request}
+use Rattle.httparse.specs.Spans.{RequestExceeds}
+use Rattle.upd_wire.specs.Inputs.{IsInput}
+use Rattle.upd_wire.proofs.InputLemmas.{input_behind, some_input}
+use Rattle.upd_wire.specs.Calls.{bad_frame}
+use Rattle.upd_wire.specs.Requests.{IsFailure, RefusesHead}
+use Rattle.upd_wire.specs.declared.call.Refusal.{Refusal}
+use Rattle.upd_wire.specs.declared.head.TheConstants.{MAX_HEAD_BYTES, MAX_HEADERS}
+
+pub nothing_has_head : HasNoRequest []
+unfolding print_request
+nothing_has_head h rest (is, whole) =
+    let some : 0 < length h.method = is.method.0 in
+    let long = ap length whole in
+    absurd (omega (arith, simp length-append at long))
+
+-- memory was wanting, or a read failed
+pub refused_by_failure : (known : Option (List ℕ)) (refusal : Refusal) → IsFailure refusal → (input : List ℕ) × IsInput known input × RefusesHead input refusal
+refused_by_failure known refusal failed =
+    let (input, is) = some_input known in
+    (input, is, inl failed)
+
+-- a front of the input that shows that its head is bad
+pub refused_bad : (old new : Option (List ℕ)) (front : List ℕ) (refusal : Refusal) → Consumes old new front → length front ≤ MAX_HEAD_BYTES
+    → NeverHasRequest front ⊎ (RequestExceeds MAX_HEADERS front ⊎ ((length front ≡ MAX_HEAD_BYTES) × HasNoRequest front))
+    → refusal ≡ bad_frame → (input : List ℕ) × IsInput old input × RefusesHead input refusal
+refused_bad old new front refusal consumed most why is =
+    let (rest, left) = some_input new in
+    (front ++ rest, input_behind old new front rest consumed left, inr (inl ((front, rest, refl, most, why), is)))
+
+-- why a parser refused a front
+pub error_says : (front : List ℕ) (e : Error) → (e ≢ TooManyHeaders → NeverHasRequest front) → (e ≡ TooManyHeaders → RequestExceeds MAX_HEADERS front)
+    → NeverHasRequest front ⊎ (RequestExceeds MAX_HEADERS front ⊎ ((length front ≡ MAX_HEAD_BYTES) × HasNoRequest front))
+error_says front HeaderName never many = inl (never (λ e. cc))
+error_says front HeaderValue never many = inl (never (λ e. cc))
+error_says front NewLine never many = inl (never (λ e. cc))
+error_says front Status never many = inl (never (λ e. cc))
+error_says front Token never many = inl (never (λ e. cc))
+error_says front TooManyHeaders never many = inr (inl (many refl))
+error_says front Version never many = inl (never (λ e. cc))

@@ -1,0 +1,24 @@
+pub mod FrontLemmas
+pub mod InputLemmas
+pub mod LengthLemmas
+pub mod ParameterLemmas
+pub mod HeadLemmas
+pub mod RequestLemmas
+pub mod PathSegmentLemmas
+pub mod SeekLemmas
+pub mod PathLemmas
+pub mod CaptureLemmas
+pub mod RouteLemmas
+pub mod SaysLemmas
+pub mod HeaderLemmas
+pub mod FrameLemmas
+pub mod ReadLemmas
+pub mod ArrivalLemmas
+pub mod SpoolLemmas
+pub mod LawLemmas
+pub mod AskLemmas
+pub mod AnswerHeadLemmas
+pub mod ReasonLemmas
+pub mod AnswerLemmas
+pub mod OwedLemmas
+mod ServedLemmas

@@ -1,0 +1,24 @@
+-- What an input asks of the desk.
+use Rattle.std.proofs.Common.{◌≡◌, ℕ, List, inl, inr, Result, Ok, sym, ap₂, ◌∙◌}
+use Rattle.httparse.proofs.GrammarLemmas.{request_unique}
+use Rattle.upd_wire.specs.Calls.{Asked}
+use Rattle.upd_wire.specs.Requests.{HasCutHead, Says, judged}
+use Rattle.upd_wire.specs.declared.call.Refusal.{Refusal}
+
+same_ok : {a b : Asked} (outcome : Result Asked Refusal) → Ok a ≡ outcome → Ok b ≡ outcome → a ≡ b
+same_ok outcome first second = cc
+
+-- an input begins with one head, and no other reading of it asks anything
+pub one_asked : (input : List ℕ) (asked other : Asked) → Says input (Ok asked) → Says input (Ok other) → asked ≡ other
+one_asked input asked other (inl (h, rest, small, reads, is)) (inl (k, more, small', reads', is')) =
+    let same = request_unique input h k rest more reads reads' in
+    same_ok (judged h rest) is (is' ∙ sym (ap₂ judged same.0 same.1))
+one_asked input asked other (inl read) (inr (inl (bad, is))) = absurd (cc)
+one_asked input asked other (inl read) (inr (inr (cut, is))) = absurd (cc)
+one_asked input asked other (inr (inl (bad, is))) says = absurd (cc)
+one_asked input asked other (inr (inr (cut, is))) says = absurd (cc)
+
+pub asked_is_whole : (input : List ℕ) (asked : Asked) → Says input (Ok asked) → ¬ (HasCutHead input)
+asked_is_whole input asked (inl (h, rest, small, reads, is)) (few, none, begun) = none h rest reads
+asked_is_whole input asked (inr (inl (bad, is))) cut = absurd (cc)
+asked_is_whole input asked (inr (inr (ends, is))) cut = absurd (cc)

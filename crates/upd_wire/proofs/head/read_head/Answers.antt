@@ -1,0 +1,36 @@
+use Rattle.std.proofs.Common.{◌≡◌, ◌≤◌, ◌++◌, inl, inr, refl, ap, sym, ◌∙◌, subst, length, take, arith, List, ℕ, Err}
+use Rattle.std.proofs.lemmas.List.{length-append, length-take-le}
+use Rattle.std.specs.Io.KnownBytes.{Consumes}
+use Rattle.httparse.specs.Spans.{RequestExceeds}
+use Rattle.upd_wire.specs.declared.head.TheConstants.{MAX_HEAD_BYTES}
+use Rattle.std.proofs.KnownBytes.{Consumes-nil, Consumes-trans}
+use Rattle.upd_wire.proofs.HeadLemmas.{error_says, nothing_has_head, refused_bad, refused_by_failure}
+use Rattle.upd_wire.proofs.head.read_head.Goals as goal
+
+pub head-init : goal.head-init
+head-init g c = rw c.requires.empty (record { most = omega arith; consumed = Consumes-nil (g.R.Read.remaining c.args.reader.now); none = nothing_has_head; unfinished = inl refl })
+
+pub returns-in-Err-parse_request-clause-err : goal.returns-in-Err-parse_request-clause-err
+returns-in-Err-parse_request-clause-err g c =
+    let more = take c.in-Ok.count c.read.new.buf in
+    let buf = c.deref.result.now in
+    let items : buf ≡ c.head.buf.items ++ more = c.deref.ensures.value ∙ (rw c.if-is_err.ensures.negation at c.extend_from_slice.ensures.items) in
+    let consumed = Consumes-trans _ _ _ _ _ c.head.invariant.consumed c.in-Ok.ensures.bytes.0 in
+    let Reads : List ℕ → Type 0 = λ l. Consumes (g.R.Read.remaining c.args.reader.now) (g.R.Read.remaining c.read.new.self) l in
+    let room : length c.read.new.buf ≡ c.min-room.result = c.read.auto.buf ∙ length-take-le c.min-room.result c.head.chunk (omega arith) in
+    let few : length (c.head.buf.items ++ more) ≤ MAX_HEAD_BYTES = omega (arith, room, c.in-Ok.ensures.bound, length-append c.head.buf.items more) in
+    let IsFew : List ℕ → Type 0 = λ l. length l ≤ MAX_HEAD_BYTES in
+    let Exceeds : ℕ → Type 0 = λ n. RequestExceeds n buf in
+    refused_bad _ _ buf _ (subst Reads (sym items) consumed) (subst IsFew (sym items) few)
+    (error_says buf c.in-Err-parse_request.field-0 c.in-Err-parse_request.ensures.invalid
+    (λ e. subst Exceeds (c.head.auto.headers ∙ c.requires.room) (c.in-Err-parse_request.ensures.too_many (ap Err e)))) c.of-in-Err-parse_request.ensures
+
+pub returns-clause-err : goal.returns-clause-err
+returns-clause-err g c =
+    refused_bad _ _ c.head.buf.items _ c.head.invariant.consumed c.head.invariant.most (inr (inr (omega arith, c.head.invariant.none))) c.of-2.ensures
+
+pub returns-then-is_err-clause-err : goal.returns-then-is_err-clause-err
+returns-then-is_err-clause-err g c = refused_by_failure (g.R.Read.remaining c.args.reader.now) c.of.result (inl c.of.ensures)
+
+pub returns-in-Err-clause-err : goal.returns-in-Err-clause-err
+returns-in-Err-clause-err g c = refused_by_failure (g.R.Read.remaining c.args.reader.now) c.silent-in-Err.result (inr c.silent-in-Err.ensures)

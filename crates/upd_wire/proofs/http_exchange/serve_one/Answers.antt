@@ -1,0 +1,21 @@
+use Rattle.std.proofs.Common.{None, Err, inl, inr, refl}
+use Rattle.std.proofs.KnownBytes.{Appends-nil}
+use Rattle.upd_wire.proofs.InputLemmas.{some_input}
+use Rattle.upd_wire.specs.Serving.{no_memory}
+use Rattle.upd_wire.proofs.AnswerLemmas.{fault_is, sends_as}
+use Rattle.upd_wire.proofs.http_exchange.serve_one.Goals as goal
+
+pub returns-in_err-routes : goal.returns-in_err-routes
+returns-in_err-routes g c =
+    let (input, is) = some_input (g.R.Read.remaining c.args.reader.now) in (
+      None,
+      Err no_memory,
+      refl,
+      (fault_is c.from_residual.result no_memory c.from_residual.ensures.1, Appends-nil (g.W.Write.contents c.args.writer.now)),
+      (input, is, inr (inr (refl, inr (inl refl)))),
+    )
+
+pub returns-in-Ok : goal.returns-in-Ok
+returns-in-Ok g c =
+    let (made, answer, leads, sends, answers) = c.in-Ok.ensures in
+    (made, answer, leads, sends_as (λ x. tt) answer _ _ _ sends, answers)

@@ -1,0 +1,15 @@
+-- What a value of the code means.
+use Rattle.std.specs.Prelude.{Result, option_map}
+use Rattle.std.specs.Result.{result_map_both}
+use Rattle.upd_text.specs.declared.fault.Fault.{Fault}
+use Rattle.upd_wire.specs.Routes.{method_of}
+use Rattle.upd_wire.specs.Responses.{Response}
+use Rattle.upd_wire.specs.declared.http_answer.Answer.{Answer}
+
+-- an answer
+abbrev pub response : Answer → Response
+response a = record { status = a.status; media = a.media; allow = option_map method_of a.allow; body = a.body.items }
+
+-- an answer, or the fault in its place
+abbrev pub answer_seen : Result Answer Fault → Result Response Fault
+answer_seen result = result_map_both response (λ fault. fault) result

@@ -1,0 +1,179 @@
+//! Commands for edited texts and for whoever keeps a library, with their help.
+ghost use Rattle.std.specs.Prelude.{◌≡◌, IfOk, take};
+ghost use Rattle.clap.specs.Words.{app_of};
+ghost use Rattle.upd_words.specs.Words.{app_with, upd_commands};
+
+use crate::app::{DECK, FILE, MODE, Operand, Text, with_command};
+use crate::querying::fifth_commands;
+use clap::Command;
+use clap::builder::ValueParser;
+use std::alloc::{AllocError, Global};
+
+/// The program with its first twenty-one commands.
+pub(crate) fn seventh_commands<'a>(alloc: Global) -> Result<Command<'a>, AllocError>
+    ensures { IfOk result (λ c. app_of c ≡ app_with (take 21 upd_commands)) }
+{
+    const COPY: Operand = (
+        "COPY",
+        "the file to be made, which must not exist",
+        ValueParser::String,
+    );
+    let app = sixth_commands(alloc)?;
+    let app = with_command(app, alloc, "runs", RUNS, &[FILE])?;
+    let app = with_command(app, alloc, "sites", SITES, &[FILE])?;
+    with_command(app, alloc, "backup", BACKUP, &[FILE, COPY])
+}
+
+/// The program with its first eighteen commands.
+fn sixth_commands<'a>(alloc: Global) -> Result<Command<'a>, AllocError>
+    ensures { IfOk result (λ c. app_of c ≡ app_with (take 18 upd_commands)) }
+{
+    const SET: Operand = (
+        "SET",
+        "the name of a new correction set",
+        ValueParser::String,
+    );
+    let app = fifth_commands(alloc)?;
+    let app = with_command(app, alloc, "correct", CORRECT, &[FILE, SET])?;
+    let app = with_command(app, alloc, "try", TRY, &[FILE, MODE])?;
+    with_command(app, alloc, "source", SOURCE, &[FILE, DECK])
+}
+
+const CORRECT: Text = Text {
+    about: "Writes the run that corrects decks to the edited text on standard input",
+    more: "\
+Reads one or more decks as `upd text` writes them, edited, and writes a run: `*IDENT SET` and the
+corrections that lead each deck to exactly this text. A deck that isn't in the library is added.
+Cards that stay aren't touched, nor are inactive cards. Where nothing differs the run has no lines.
+Changes nothing: send the run with `upd run`.
+
+FILE can also be a deck's listing, as `upd list` writes it and GET /decks/DECK answers it. Then only
+that deck can be edited.
+
+A text is refused where no run could lead to it. Each problem is one line on standard error, with the
+line and column of the text, as `LineLong 7:81 a line has at most 80 bytes`. Other faults, and a text
+of more than 4050000 bytes, are one line too.
+
+Exit status: 0 done; 1 the text is refused; 2 the command line can't be read; 3 out of memory, or the
+library, a read or a write failed.
+
+Example, after `upd init library.db`:
+  printf '*DECK A\\nONE\\n' | upd run library.db LYON 1 full
+  upd text library.db A | sed 's/ONE/TWO/' | upd correct library.db FIX > fix.run
+  upd run library.db LYON 2 full < fix.run",
+};
+
+const TRY: Text = Text {
+    about: "Writes the reply that the run on standard input would get now, and stores nothing",
+    more: "\
+Reads a run of at most 65536 bytes and writes the reply that `upd run` would write, a line of JSON,
+but for the site and the number: they are TRY and 1. Changes nothing, and no number is used.
+
+Warnings follow on standard error, a line each, with the number of the line of the run: comments,
+which are dropped, text that may be meant for a directive, a card that is off already, and a range
+of more than 20 cards. They don't change the exit status.
+
+Exit status: 0 the run would be accepted; 1 refused; 2 the command line can't be read; 3 out of
+memory, or the library, a read or a write failed. A refusal is a line of JSON on standard output;
+any other fault is one line on standard error.
+
+Example, after `upd init library.db`:
+  printf '*DECK A\\nONE\\n' | upd try library.db full",
+};
+
+const SOURCE: Text = Text {
+    about: "Writes the compile file of one deck",
+    more: "\
+Reads nothing, and writes lines of 97 bytes: the deck's active cards, with its calls followed.
+Changes nothing. The compile file of a common deck has no lines.
+
+Exit status: 0 done; 1 DECK is not a name, there is no such deck, a call can't be followed, or the
+file would be too long; 2 the command line can't be read; 3 out of memory, or the library or a write
+failed. The fault is one line on standard error.
+
+Example, after `upd init library.db`:
+  printf '*DECK A\\nONE\\n' | upd run library.db LYON 1 full
+  upd source library.db A",
+};
+
+const RUNS: Text = Text {
+    about: "Lists the stored runs, by site and number",
+    more: "\
+Reads nothing, and writes a line for each stored run: the site, the number, the mode, and `accepted`
+with the idents that the run introduced, or the name of its refusal. Changes nothing. A settled run
+is no longer stored.
+
+Exit status: 0 done; 2 the command line can't be read; 3 out of memory, or the library or a write
+failed. The fault is one line on standard error.
+
+Example, after `upd init library.db`:
+  printf '*DECK A\\nONE\\n' | upd run library.db LYON 1 full
+  upd runs library.db",
+};
+
+const SITES: Text = Text {
+    about: "Lists the sites, each with its settled mark and its next number",
+    more: "\
+Reads nothing, and writes a line for each site that has a stored run or has settled: the site, its
+settled mark or 0, its greatest number, and the next one that is free. Changes nothing.
+
+Exit status: 0 done; 2 the command line can't be read; 3 out of memory, or the library or a write
+failed. The fault is one line on standard error.
+
+Example, after `upd init library.db`:
+  printf '*DECK A\\nONE\\n' | upd run library.db LYON 1 full
+  upd sites library.db",
+};
+
+const BACKUP: Text = Text {
+    about: "Makes a whole copy of a library's file",
+    more: "\
+Reads and writes nothing. COPY is made and must not exist, nor a file COPY-wal or COPY.part. The copy
+is a library by itself: it has also what is still in the log beside FILE. No other command may have
+FILE open.
+
+Exit status: 0 done; 2 the command line can't be read; 3 COPY exists or can't be made, out of memory,
+or the library failed. The fault is one line on standard error.
+
+Example, after `upd init library.db`:
+  upd backup library.db copy.db",
+};
+
+pub(crate) const EXAMINE: Text = Text {
+    about: "Says what is at a path, and whether it is a sound library",
+    more: "\
+Reads nothing. FILE can be anything. Where it is a library whose rows are sound, writes a line with the
+numbers of its decks, cards and stored runs. Else standard error says what there is and what to do, or
+what is wrong with the rows, a line each, at most 100. Changes nothing; an empty log may be left beside
+a database. No other command may have FILE open.
+
+Exit status: 0 a sound library; 1 a library that is not sound; 2 the command line can't be read; 3 no
+library that can be read, out of memory, or the library or a write failed.
+
+Example, after `upd init library.db`:
+  upd examine library.db",
+};
+
+pub(crate) const MIGRATE: Text = Text {
+    about: "Migrates the file of an older schema to the present schema",
+    more: "\
+Reads and writes nothing. A file of the present schema is left as it is.
+
+Exit status: 0 done; 2 the command line can't be read; 3 FILE is not a library of a known schema, out
+of memory, or the library failed. The fault is one line on standard error.
+
+Example:
+  upd migrate library.db",
+};
+
+pub(crate) const EXPLAIN: Text = Text {
+    about: "Explains a fault: what it means, where it comes from, and what to do",
+    more: "\
+Reads nothing, and writes three lines. FAULT is a fault's name or its number.
+
+Exit status: 0 done; 1 no fault has this name or number, which is BadName; 2 the command line can't
+be read; 3 out of memory, or a write failed. The fault is one line on standard error.
+
+Example:
+  upd explain Store",
+};

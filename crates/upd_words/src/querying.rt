@@ -1,0 +1,221 @@
+//! Commands that ask a library: what they ask, and their help.
+ghost use Rattle.std.specs.Prelude.{◌≡◌, IfOk, take};
+ghost use Rattle.clap.specs.Words.{app_of, found_of, rows_of};
+ghost use Rattle.upd_words.specs.Words.{HasQueried, IsOneOf, IsOther, IsRead, app_with, desk_commands, file_commands};
+ghost use Rattle.upd_words.specs.Words.{query_name, upd_commands};
+
+use crate::app::{DECK, FILE, Operand, Text, with_command};
+use crate::changing::second_commands;
+use crate::operands::{card, name};
+use clap::builder::ValueParser;
+use clap::{ArgMatches, Command};
+use std::alloc::{AllocError, Global};
+use upd_text::{CardRef, Fault, Name};
+
+/// What a command asks of a library, for a text that is made of it.
+#[derive(Drop)]
+pub enum Query {
+    Compile,
+    Deck(Name),
+    Card(CardRef),
+    Idents,
+    Yanks,
+    View(View),
+}
+
+/// What a command asks of a whole library.
+#[derive(Drop)]
+pub enum View {
+    /// The cards of a deck, each with who switched it last.
+    Blame(Name),
+    /// What an ident did.
+    Ident(Name),
+    /// The library as a page of HTML.
+    Page,
+    /// The active cards of a deck as plain text.
+    Text(Name),
+    /// The compile file of a deck alone.
+    Source(Name),
+}
+
+/// What a command asks of a library.
+pub(crate) fn read_query(command: &str, operands: &ArgMatches<'_>) -> Result<Query, Fault>
+    requires known { IsOneOf command.now upd_commands }
+    requires other { IsOther command.now file_commands }
+    requires not_at_desk { IsOther command.now desk_commands }
+    ensures { IsRead (λ query. (command.now ≡ query_name query) × HasQueried (rows_of (found_of operands.now)) query)
+        (command.now, rows_of (found_of operands.now)) result }
+{
+    match command {
+        "compile" => Ok(Query::Compile),
+        "list" => Ok(Query::Deck(name(operands, "DECK")?)),
+        "history" => Ok(Query::Card(card(operands)?)),
+        "idents" => Ok(Query::Idents),
+        "yanks" => Ok(Query::Yanks),
+        "blame" => Ok(Query::View(View::Blame(name(operands, "DECK")?))),
+        "show" => Ok(Query::View(View::Ident(name(operands, "IDENT")?))),
+        "page" => Ok(Query::View(View::Page)),
+        "text" => Ok(Query::View(View::Text(name(operands, "DECK")?))),
+        _ => Ok(Query::View(View::Source(name(operands, "DECK")?))),
+    }
+}
+
+/// The program with its first fifteen commands.
+pub(crate) fn fifth_commands<'a>(alloc: Global) -> Result<Command<'a>, AllocError>
+    ensures { IfOk result (λ c. app_of c ≡ app_with (take 15 upd_commands)) }
+{
+    let app = fourth_commands(alloc)?;
+    let app = with_command(app, alloc, "yanks", YANKS, &[FILE])?;
+    let app = with_command(app, alloc, "page", PAGE, &[FILE])?;
+    with_command(app, alloc, "text", TEXT, &[FILE, DECK])
+}
+
+/// The program with its first twelve commands.
+fn fourth_commands<'a>(alloc: Global) -> Result<Command<'a>, AllocError>
+    ensures { IfOk result (λ c. app_of c ≡ app_with (take 12 upd_commands)) }
+{
+    const IDENT: Operand = (
+        "IDENT",
+        "the name of a deck or a correction set",
+        ValueParser::String,
+    );
+    let app = third_commands(alloc)?;
+    let app = with_command(app, alloc, "blame", BLAME, &[FILE, DECK])?;
+    let app = with_command(app, alloc, "show", SHOW, &[FILE, IDENT])?;
+    with_command(app, alloc, "idents", IDENTS, &[FILE])
+}
+
+/// The program with its first nine commands.
+fn third_commands<'a>(alloc: Global) -> Result<Command<'a>, AllocError>
+    ensures { IfOk result (λ c. app_of c ≡ app_with (take 9 upd_commands)) }
+{
+    const CARD: Operand = ("CARD", "a card, as A.2", ValueParser::String);
+    const ANY_DECK: Operand = (
+        "DECK",
+        "the name of a deck, or YANK$$$",
+        ValueParser::String,
+    );
+    let app = second_commands(alloc)?;
+    let app = with_command(app, alloc, "compile", COMPILE, &[FILE])?;
+    let app = with_command(app, alloc, "list", LIST, &[FILE, ANY_DECK])?;
+    with_command(app, alloc, "history", HISTORY, &[FILE, CARD])
+}
+
+const COMPILE: Text = Text {
+    about: "Writes the compile file of all decks that aren't common",
+    more: "\
+Reads nothing, and writes lines of 97 bytes. Changes nothing.
+
+Exit status: 0 done; 1 a call can't be followed, or the file would be too long; 2 the command line
+can't be read; 3 out of memory, or the library or a write failed. The fault is one line on standard
+error.
+
+Example, after `upd init library.db`:
+  upd compile library.db",
+};
+
+const LIST: Text = Text {
+    about: "Lists the cards of a deck, active or inactive",
+    more: "\
+Reads nothing, and writes a line for the deck and a line for each card. Changes nothing.
+
+Exit status: 0 done; 1 DECK is not a name, or there is no such deck; 2 the command line can't be
+read; 3 out of memory, or the library or a write failed. The fault is one line on standard error.
+
+Example, after `upd init library.db`:
+  printf '*DECK A\\nONE\\n' | upd run library.db LYON 1 full
+  upd list library.db A",
+};
+
+const HISTORY: Text = Text {
+    about: "Lists what is known of a card: its deck, its text, its status and its history",
+    more: "\
+Reads nothing, and writes a line for each. Changes nothing.
+
+Exit status: 0 done; 1 CARD is not a card's name, or there is no such card; 2 the command line can't
+be read; 3 out of memory, or the library or a write failed. The fault is one line on standard error.
+
+Example, after `upd init library.db`:
+  printf '*DECK A\\nONE\\n' | upd run library.db LYON 1 full
+  upd history library.db A.2",
+};
+
+const BLAME: Text = Text {
+    about: "Lists the cards of a deck with who switched each of them last",
+    more: "\
+Reads nothing, and writes a line for each card: A (active) or I (inactive), the card, the set that
+switched it last and isn't yanked, and the text. Changes nothing.
+
+Exit status: 0 done; 1 DECK is not a name, or there is no such deck; 2 the command line can't be
+read; 3 out of memory, or the library or a write failed. The fault is one line on standard error.
+
+Example, after `upd init library.db`:
+  printf '*DECK A\\nONE\\n' | upd run library.db LYON 1 full
+  upd blame library.db A",
+};
+
+const SHOW: Text = Text {
+    about: "Shows what a deck or a correction set did: its cards, what it switched, what it yanks",
+    more: "\
+Reads nothing, and writes a line for each card that IDENT added, switched off or on, or yanks with,
+and for each live card that yanks it. Changes nothing.
+
+Exit status: 0 done; 1 IDENT is not a name, or nothing of this name is held; 2 the command line can't
+be read; 3 out of memory, or the library or a write failed. The fault is one line on standard error.
+
+Example, after `upd init library.db`:
+  printf '*DECK A\\nONE\\n' | upd run library.db LYON 1 full
+  upd show library.db A",
+};
+
+const IDENTS: Text = Text {
+    about: "Lists all decks and correction sets, the oldest first, purged ones included",
+    more: "\
+Reads nothing, and writes a line for each. Changes nothing.
+
+Exit status: 0 done; 2 the command line can't be read; 3 out of memory, or the library or a write
+failed. The fault is one line on standard error.
+
+Example, after `upd init library.db`:
+  upd idents library.db",
+};
+
+const YANKS: Text = Text {
+    about: "Lists the yank cards, live or dead, with what each of them yanks",
+    more: "\
+Reads nothing, and writes a line for each card and for each of its targets. Changes nothing.
+
+Exit status: 0 done; 2 the command line can't be read; 3 out of memory, or the library or a write
+failed. The fault is one line on standard error.
+
+Example, after `upd init library.db`:
+  upd yanks library.db",
+};
+
+const PAGE: Text = Text {
+    about: "Writes the library as one page for a browser",
+    more: "\
+Reads nothing, and writes HTML that stands alone: the directory, the decks with their cards, each
+card's history at a click, and the yanks. There is no script in it. Changes nothing.
+
+Exit status: 0 done; 2 the command line can't be read; 3 out of memory, or the library or a write
+failed. The fault is one line on standard error.
+
+Example, after `upd init library.db`:
+  upd page library.db > library.html",
+};
+
+const TEXT: Text = Text {
+    about: "Writes the active cards of a deck as plain text, to be edited",
+    more: "\
+Reads nothing, and writes a line for each active card, the deck's first line included; calls stay
+calls. Changes nothing. What it writes is a run that adds the deck to an empty library, and what
+`upd correct` takes once it is edited.
+
+Exit status: 0 done; 1 DECK is not a name, or there is no such deck; 2 the command line can't be
+read; 3 out of memory, or the library or a write failed. The fault is one line on standard error.
+
+Example, after `upd init library.db`:
+  printf '*DECK A\\nONE\\n' | upd run library.db LYON 1 full
+  upd text library.db A",
+};

@@ -1,8 +1,0 @@
-use Rattle.std.proofs.Common.{◌≡◌, take}
-use Rattle.std.specs.List.{list_any}
-use Rattle.upd_records.specs.Rows.{same_ref}
-use Rattle.upd_text.specs.declared.card_ref.CardRef.{CardRef}
-use Rattle.upd_yank.proofs.touched.Touched.of.Given as goal
-
-abbrev pub invariant-loop-card : goal.invariant-loop-card
-invariant-loop-card l = (r : CardRef) → list_any (same_ref r) l.touched ≡ list_any (same_ref r) (take l.card-index l.cards)
