@@ -26,7 +26,7 @@ from changes import CHANGES, TABLES  # noqa: E402
 from needs import ROOT, add_executable, there  # noqa: E402
 from paths import try_paths  # noqa: E402
 
-EXAMPLES = ROOT / "crates/upd_examples/data"
+EXAMPLES = ROOT / "examples/runs"
 TEXTS = [f"      X = {number}" for number in range(20)] + ["", "C     A REMARK", "*CALL COMMON", "      END"]
 SITES = ["LYON", "PARIS", "ROMA"]
 MODES = ["full", "quick", "normal"]

@@ -2,8 +2,8 @@
 //! statuses and limits, of edited texts, runs that are tried, looks and lists of runs, and of public calls that no other
 //! test has (`surface`).
 //!
-//! Expected values are worked by hand from `docs/rules.md`, or come from a second implementation, as the files of
-//! `upd_examples` do. Tests are in crates of their own, since a crate with tests is proved once more with them.
+//! Expected values are worked by hand from `docs/rules.md`, or come from a second implementation. Tests are in crates of
+//! their own, since a crate with tests is proved once more with them.
 #![tactic(auto)]
 
 #[cfg(test)]
