@@ -3,3 +3,4 @@ pub mod WordLemmas
 pub mod AppLemmas
 pub mod PassedLemmas
 pub mod CountLemmas
+pub mod NamedLemmas

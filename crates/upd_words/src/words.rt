@@ -1,10 +1,12 @@
 //! What the words of a command line ask for.
-ghost use Rattle.std.specs.Prelude.{[], ◌∷◌, ◌≡◌, IfErr, IfOk, IfSome, IsSomeAnd, codes, map, true, ◌≢◌};
+ghost use Rattle.std.specs.Prelude.{List, [], ◌∷◌, ◌≡◌, IfErr, IfOk, IfSome, IsSomeAnd, codes, map, true, ◌≢◌};
 ghost use Rattle.clap.specs.Words.{Text, found_of, has_subcommand, kind_of, rows_of, subcommand_rows_of};
 ghost use Rattle.clap.specs.declared.error.kind.ErrorKind.TheVariants.{OutOfMemory, ValueValidation};
 ghost use Rattle.upd_words.specs.Words.{HasCount, HasOperands, IsAskedFor, IsOneOf, IsOther, IsPlain, IsRead, IsRequest};
 ghost use Rattle.upd_words.specs.Words.{IsUnasked, IsUnreadRequest, SpellsCount, command_name, command_word, file_commands};
-ghost use Rattle.upd_words.specs.Words.{no_memory, operand_in, operand_word, upd_commands, word_faults};
+ghost use Rattle.upd_words.specs.Words.{no_memory, operand_in, operand_word, request_name, upd_commands, word_faults};
+ghost use Rattle.upd_words.specs.declared.words.Request.{Request as RequestView};
+ghost use Rattle.upd_words.specs.declared.words.Request.TheVariants.{Trial};
 
 use crate::app::program;
 use crate::operands::{count, number, read_address, word};
@@ -201,6 +203,15 @@ pub fn trial_is_read()
     ensures read { (name mode : Text) → IsPlain mode → word_faults (name ∷ codes "trial" ∷ mode ∷ []) ≡ [] }
     ensures asks { (name mode : Text) → IsPlain mode → command_word (name ∷ codes "trial" ∷ mode ∷ []) ≡ codes "trial" }
     ensures mode { (name mode : Text) → IsPlain mode → operand_word (codes "MODE") (name ∷ codes "trial" ∷ mode ∷ []) ≡ mode }
+{}
+
+/// What is asked for by words that are read is the request of the command that they name, and a trial has the mode that
+/// they give it.
+pub fn requests_have_names()
+    ensures named { (words : List Text) (request : RequestView) → word_faults words ≡ [] → IsAskedFor words request
+        → command_word words ≡ request_name request }
+    ensures mode { (words : List Text) (mode : _) → word_faults words ≡ [] → IsAskedFor words (Trial mode)
+        → mode.now ≡ operand_word (codes "MODE") words }
 {}
 
 /// `serve` and three words that do not begin with a hyphen are a command line, whatever the program is called, where the
