@@ -13,8 +13,7 @@ use Rattle.upd_records.specs.Rows.{CardRow, EntryRow, TargetRow, RunView, StateR
 use Rattle.upd_row_store.specs.Tables.{is_run, is_settled, is_mark_of}
 use Rattle.upd_sqlite.proofs.Tests.{eq_text, eq_nat, le_nat, one_test, two_tests, three_tests}
 use Rattle.upd_sql.specs.Encoded.{num, target_code, card_row, entry_row, target_row, run_row, state_row, count_row, mark_row}
-use Rattle.upd_sql.proofs.WriteTexts.{delete_card_tests, delete_entries_tests, delete_targets_tests, delete_state_tests, delete_count_tests}
-use Rattle.upd_sql.proofs.WriteTexts.{delete_mark_tests, delete_runs_tests, update_state_tests}
+use Rattle.upd_sql.proofs.WriteTexts.{card_tests, delete_count_tests, delete_runs_tests, first_tests}
 use Rattle.upd_sql.proofs.ReadTexts.{run_of_key_tests, mark_of_site_tests}
 
 pub bytes_flip : (a b : List ℕ) → bytes_eq a b ≡ bytes_eq b a
@@ -37,19 +36,19 @@ card_params c = Text c.name ∷ num c.number ∷ []
 abbrev pub passes : Row → List Term → Row → Bool
 passes params tests v = list_all (holds (params ∷ (Null ∷ v) ∷ [])) tests
 
-pub card_named : (c : CardRef) (r : CardRow) → passes (card_params c) delete_card_tests (card_row r) ≡ same_ref c r.card
+pub card_named : (c : CardRef) (r : CardRow) → passes (card_params c) card_tests (card_row r) ≡ same_ref c r.card
 card_named c r = two_tests (eq_text r.card.name c.name ∙ bytes_flip r.card.name c.name) (eq_nat r.card.number c.number ∙ nat_flip r.card.number c.number)
 
-pub entry_named : (c : CardRef) (r : EntryRow) → passes (card_params c) delete_entries_tests (entry_row r) ≡ same_ref c r.card
+pub entry_named : (c : CardRef) (r : EntryRow) → passes (card_params c) card_tests (entry_row r) ≡ same_ref c r.card
 entry_named c r = two_tests (eq_text r.card.name c.name ∙ bytes_flip r.card.name c.name) (eq_nat r.card.number c.number ∙ nat_flip r.card.number c.number)
 
-pub target_named : (c : CardRef) (r : TargetRow) → passes (card_params c) delete_targets_tests (target_row r) ≡ same_ref c r.card
+pub target_named : (c : CardRef) (r : TargetRow) → passes (card_params c) card_tests (target_row r) ≡ same_ref c r.card
 target_named c r = two_tests (eq_text r.card.name c.name ∙ bytes_flip r.card.name c.name) (eq_nat r.card.number c.number ∙ nat_flip r.card.number c.number)
 
-pub state_named : (c : CardRef) (r : StateRow) → passes (card_params c) delete_state_tests (state_row r) ≡ same_ref c r.card
+pub state_named : (c : CardRef) (r : StateRow) → passes (card_params c) card_tests (state_row r) ≡ same_ref c r.card
 state_named c r = two_tests (eq_text r.card.name c.name ∙ bytes_flip r.card.name c.name) (eq_nat r.card.number c.number ∙ nat_flip r.card.number c.number)
 
-pub state_told : (r s : StateRow) → passes (state_row r) update_state_tests (state_row s) ≡ same_ref r.card s.card
+pub state_told : (r s : StateRow) → passes (state_row r) card_tests (state_row s) ≡ same_ref r.card s.card
 state_told r s = two_tests (eq_text s.card.name r.card.name ∙ bytes_flip s.card.name r.card.name) (eq_nat s.card.number r.card.number
     ∙ nat_flip s.card.number r.card.number)
 
@@ -68,7 +67,7 @@ same_codes (Deck a) (Deck b) n = three_tests (eq_nat 2 2) (eq_nat b a) (eq_nat 0
 pub count_named : (t : Target) (r : CountRow) → passes (target_code t) delete_count_tests (count_row r) ≡ is_same t r.target
 count_named t r = same_codes t r.target r.n
 
-pub mark_named : (site : List ℕ) (r : MarkRow) → passes (Text site ∷ []) delete_mark_tests (mark_row r) ≡ is_mark_of site r
+pub mark_named : (site : List ℕ) (r : MarkRow) → passes (Text site ∷ []) first_tests (mark_row r) ≡ is_mark_of site r
 mark_named site r = one_test (eq_text r.site site)
 
 pub mark_found : (site : List ℕ) (r : MarkRow) → passes (Text site ∷ []) mark_of_site_tests (mark_row r) ≡ is_mark_of site r

@@ -1,5 +1,5 @@
 -- Reading whole tables: the rows of an answer are the table's, in any order, and each is read as the record that it stores.
-use Rattle.std.proofs.Common.{◌≡◌, ℕ, ◌+◌, ◌<◌, Bool, true, List, [], ◌∷◌, ◌++◌, map, filter, take, length, get_or, Result, Ok, Err, refl, sym, ap, ap₂, subst, ◌∙◌}
+use Rattle.std.proofs.Common.{◌≡◌, ℕ, ◌+◌, ◌<◌, true, List, [], ◌∷◌, ◌++◌, map, filter, take, length, get_or, Result, Ok, Err, refl, sym, ap, ap₂, subst, ◌∙◌}
 use Rattle.std.proofs.Common.{arith, int_cmp, nat_cmp, pos, Ordering, IsErr, IfOk}
 use Rattle.std.specs.Ordering.{ordering_then}
 use Rattle.std.specs.List.{list_all}
@@ -16,7 +16,7 @@ use Rattle.sqlite.specs.declared.error.Error.{Error}
 use Rattle.sqlite.specs.Effect.{Database}
 use Rattle.sqlite.specs.Given.{IsPlain}
 use Rattle.sqlite.specs.Listing.{understood}
-use Rattle.sqlite.specs.State.{State, HasCleanDisk, Shown}
+use Rattle.sqlite.specs.State.{State, Shown}
 use Rattle.sqlite_keyed.proofs.ListLemmas.{map-map}
 use Rattle.upd_core.specs.declared.target.Target.{Target}
 use Rattle.upd_core.specs.declared.target.Target.TheVariants.{Set, SetIn, Deck}
@@ -89,12 +89,14 @@ module _ (old new : State) (it : Rows) (h : HoldsTables it old.now) (rows : List
   abbrev Answers : {X : Type 0} → List ℕ → (X → Row) → (X → X → Ordering) → List X → Type 0
   Answers sql row cmp xs = Shown sql [] old new rows → (us : List _) × (rows ≡ map row us) × AreInOrder cmp xs us
 
-  whole : (k tree : ℕ) (alone : is_lone tree k library_schema.tables ≡ true) {X : Type 0} (row : X → Row) (xs : List X) (are : rows_at k (stored it) ≡ map row xs)
+  whole : (k tree : ℕ) (alone : is_lone tree k library_schema.tables ≡ true) {X : Type 0} (row : X → Row) (xs : List X)
+      (are : rows_at k (stored it) ≡ map row xs)
       (sql : List ℕ) (shown : List Term) (order : List (Term × Key)) (cmp : X → X → Ordering) → Reads sql tree [] shown order → list_all is_bare shown ≡ true
       → list_all is_bare (map (λ o. o.0) order) ≡ true → ((x : X) → eval_all shown ([] ∷ (Null ∷ row x) ∷ []) ≡ row x)
       → ((x y : X) → sort_cmp order ([] ∷ (Null ∷ row x) ∷ []) ([] ∷ (Null ∷ row y) ∷ []) ≡ cmp x y) → Answers sql row cmp xs
   whole k tree alone row xs are sql shown order cmp query bare bare_order kept up answer =
-      let found = lists k tree alone row row (stored it) xs are sql [] old new rows answer h [] shown order query refl bare bare_order (λ _. true) (λ x. refl) kept in
+      let found = lists k tree alone row row (stored it) xs are sql [] old new rows answer h [] shown order
+      query refl bare bare_order (λ _. true) (λ x. refl) kept in
       (found.0, found.1, ordered_as _ cmp _ xs found.0 up (all_pass xs) found.2)
 
   pub idents_listed : Answers sql.ALL_IDENTS.now ident_row in_any_order it.idents
@@ -113,11 +115,13 @@ module _ (old new : State) (it : Rows) (h : HoldsTables it old.now) (rows : List
   state_rows_listed = whole 6 12 refl state_row it.states refl _ three [] in_any_order all_states refl refl (λ x. refl) (λ x y. refl)
 
   pub states_listed : Answers sql.ALL_STATES.now kept_state in_any_order (map state_pair it.states)
-  states_listed = whole 6 12 refl kept_state (map state_pair it.states) (sym (map-map kept_state state_pair it.states)) _ three [] in_any_order all_states refl refl
+  states_listed = whole 6 12 refl kept_state (map state_pair it.states) (sym (map-map kept_state state_pair it.states))
+      _ three [] in_any_order all_states refl refl
       (λ x. refl) (λ x y. refl)
 
   pub counts_listed : Answers sql.ALL_COUNTS.now kept_count in_any_order (map count_pair it.counts)
-  counts_listed = whole 7 14 refl kept_count (map count_pair it.counts) (sym (map-map kept_count count_pair it.counts)) _ four [] in_any_order all_counts refl refl
+  counts_listed = whole 7 14 refl kept_count (map count_pair it.counts) (sym (map-map kept_count count_pair it.counts))
+      _ four [] in_any_order all_counts refl refl
       count_whole (λ x y. refl)
 
   pub runs_listed : Answers sql.ALL_RUNS.now run_row by_key it.runs

@@ -85,20 +85,29 @@ fn targets_in<S: Alter>(tx: &mut Transaction<'_, S>, alloc: Global) -> Result<Ve
     all_of(tx, alloc, texts::ALL_TARGETS)
 }
 
-fn state_rows_in<S: Alter>(tx: &mut Transaction<'_, S>, alloc: Global) -> Result<Vec<StateRow>, Error>
+fn state_rows_in<S: Alter>(
+    tx: &mut Transaction<'_, S>,
+    alloc: Global,
+) -> Result<Vec<StateRow>, Error>
     ensures { Inside (state S.Store) (Looks (λ it found. AreInOrder in_any_order it.states found.items)) tx.old.conn tx.new.conn result }
 {
     all_of(tx, alloc, texts::ALL_STATES)
 }
 
-fn states_in<S: Alter>(tx: &mut Transaction<'_, S>, alloc: Global) -> Result<Vec<(CardRef, bool)>, Error>
+fn states_in<S: Alter>(
+    tx: &mut Transaction<'_, S>,
+    alloc: Global,
+) -> Result<Vec<(CardRef, bool)>, Error>
     ensures { Inside (state S.Store) (Looks (λ it found. AreInOrder in_any_order (map state_pair it.states) found.items))
         tx.old.conn tx.new.conn result }
 {
     all_of(tx, alloc, texts::ALL_STATES)
 }
 
-fn counts_in<S: Alter>(tx: &mut Transaction<'_, S>, alloc: Global) -> Result<Vec<(Target, u32)>, Error>
+fn counts_in<S: Alter>(
+    tx: &mut Transaction<'_, S>,
+    alloc: Global,
+) -> Result<Vec<(Target, u32)>, Error>
     ensures { Inside (state S.Store) (Looks (λ it found. AreInOrder in_any_order (map count_pair it.counts) found.items))
         tx.old.conn tx.new.conn result }
 {
@@ -120,7 +129,10 @@ pub fn marks_in<S: Alter>(tx: &mut Transaction<'_, S>, alloc: Global) -> Result<
 }
 
 /// The rows of the four tables that a library is made of, inside a transaction.
-pub fn library_rows_in<S: Alter>(tx: &mut Transaction<'_, S>, alloc: Global) -> Result<LibraryRows, Error>
+pub fn library_rows_in<S: Alter>(
+    tx: &mut Transaction<'_, S>,
+    alloc: Global,
+) -> Result<LibraryRows, Error>
     ensures { Inside (state S.Store) (Looks AreRowsOf) tx.old.conn tx.new.conn result }
 {
     Ok(LibraryRows {
@@ -132,7 +144,10 @@ pub fn library_rows_in<S: Alter>(tx: &mut Transaction<'_, S>, alloc: Global) -> 
 }
 
 /// The rows that give the active cards, inside a transaction.
-pub(crate) fn active_in<S: Alter>(tx: &mut Transaction<'_, S>, alloc: Global) -> Result<ActiveRows, Error>
+pub(crate) fn active_in<S: Alter>(
+    tx: &mut Transaction<'_, S>,
+    alloc: Global,
+) -> Result<ActiveRows, Error>
     ensures { Inside (state S.Store) (Looks AreActiveRows) tx.old.conn tx.new.conn result }
 {
     Ok(ActiveRows {
@@ -143,7 +158,10 @@ pub(crate) fn active_in<S: Alter>(tx: &mut Transaction<'_, S>, alloc: Global) ->
 }
 
 /// The status of each card and the count of each target that a live yank card has, by the keys of their tables.
-pub(crate) fn all_states_in<S: Alter>(tx: &mut Transaction<'_, S>, alloc: Global) -> Result<States, Error>
+pub(crate) fn all_states_in<S: Alter>(
+    tx: &mut Transaction<'_, S>,
+    alloc: Global,
+) -> Result<States, Error>
     ensures { Inside (state S.Store) (Looks (λ it found. AreRead it found × AreByKey found)) tx.old.conn tx.new.conn result }
 {
     let states = states_in(tx, alloc)?;

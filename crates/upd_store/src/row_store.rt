@@ -16,8 +16,8 @@ use upd_row_store::{
     reads_with,
 };
 use upd_sql::{
-    commit_changes, is_library_schema, settle_site, stored_active, stored_library_rows, stored_mark,
-    stored_run, stored_states,
+    commit_changes, is_library_schema, settle_site, stored_active, stored_library_rows,
+    stored_mark, stored_run, stored_states,
 };
 use upd_sqlite::{Rising, committed_schema};
 use upd_text::Fault;

@@ -20,5 +20,6 @@ returns g c =
       does =
           looked (λ it mark. mark ≡ mark_at site it) (λ rows. rows.items) MARK_OF_SITE.now (Text site ∷ []) old new rows c.first_mark.result mark_of_site.plain
           said.does (λ it h shown. on_value c.first_mark.result c.first_mark.ensures.found
-          (λ x says. says (filter (is_mark_of site) it.settled) (c.deref.ensures.value ∙ marks_found old new rows.items it h site shown) ∙ first_is_mark site it));
+          (λ x says. says (filter (is_mark_of site) it.settled) (c.deref.ensures.value ∙ marks_found old new rows.items it h site shown)
+          ∙ first_is_mark site it));
     }

@@ -20,7 +20,8 @@ returns g c =
     record {
       same_reference = said.same_reference;
       does =
-          looked (λ it run. run ≡ run_at site n it) (λ rows. rows.items) RUN_OF_KEY.now (Text site ∷ num n ∷ []) old new rows c.first_run.result run_of_key.plain
+          looked (λ it run. run ≡ run_at site n it) (λ rows. rows.items) RUN_OF_KEY.now (Text site ∷ num n ∷ []) old new rows c.first_run.result
+          run_of_key.plain
           said.does (λ it h shown. on_value c.first_run.result c.first_run.ensures.found
           (λ x says. says (filter (is_run site n) it.runs) (c.deref.ensures.value ∙ runs_found old new rows.items it h site n shown) ∙ first_is_run site n it));
     }

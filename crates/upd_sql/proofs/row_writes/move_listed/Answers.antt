@@ -48,10 +48,13 @@ loop-ident-preserved g c =
     )
 
 pub returns : goal.returns
-returns g c = record { same_reference = search rules; does =
-    let old = state g.S.Store c.args.tx.now.conn.now in
-    let new = state g.S.Store c.loop-ident.tx.conn.now in
-    let Can : Rows → Type 0 = λ it. Fits (CardsMoved c.args.deck c.args.from (pos c.args.by)) it
-    × MovesListed c.args.movable.now (CardsMoved c.args.deck c.args.from (pos c.args.by)) it in
-    subst (λ es. Makes {X = Unit {0}} HoldsTables Can (with_others_moved es c.args.deck c.args.from c.args.by) old new (Ok tt))
-    (rest_all deref_pair c.loop-ident.ident-iterator c.next.new.self c.next.result c.in-None.is c.next.ensures.steps) c.loop-ident.invariant.2 }
+returns g c = record {
+  same_reference = search rules;
+  does =
+      let old = state g.S.Store c.args.tx.now.conn.now in
+      let new = state g.S.Store c.loop-ident.tx.conn.now in
+      let Can : Rows → Type 0 = λ it. Fits (CardsMoved c.args.deck c.args.from (pos c.args.by)) it
+      × MovesListed c.args.movable.now (CardsMoved c.args.deck c.args.from (pos c.args.by)) it in
+      subst (λ es. Makes {X = Unit {0}} HoldsTables Can (with_others_moved es c.args.deck c.args.from c.args.by) old new (Ok tt))
+      (rest_all deref_pair c.loop-ident.ident-iterator c.next.new.self c.next.result c.in-None.is c.next.ensures.steps) c.loop-ident.invariant.2;
+}

@@ -15,6 +15,7 @@ returns g c =
     zero one two c.in_ok-idents_in.field-0 (Ok c.in_ok-cards_in.field-0) c.in_ok-idents_in.ensures.does c.in_ok-cards_in.ensures.does in
     record {
       same_reference = search rules;
-      does = looks_more _ (λ it x. AreInOrder in_any_order it.states x.items) AreActiveRows zero two three c.in_ok-cards_in.field-0 c.in_ok-state_rows_in.field-0 _
+      does = looks_more _ (λ it x. AreInOrder in_any_order it.states x.items)
+          AreActiveRows zero two three c.in_ok-cards_in.field-0 c.in_ok-state_rows_in.field-0 _
           first c.in_ok-state_rows_in.ensures.does (λ it p q. record { idents = p.0.same; cards = p.1.same; states = q.same });
     }
