@@ -150,12 +150,14 @@ fn with_library<S: RowStore, R: Read, W: Write, E: Write>(
     (ended, desk.close().into_inner())
 }
 
-/// Reads the rows into memory before connections are served, if they can be had.
+/// Reads the rows into memory before runs are handed in, if they can be had: a run asks for them more than once.
 fn begin<S: RowStore>(alloc: Global, rows: &mut MirrorStore<S>, command: &Command<'_>)
     ensures { Begins ⟦<MirrorStore<S> as Meaning>⟧ command.now rows.old rows.new }
 {
     match command {
-        Command::Serve { .. } => warm(alloc, rows),
+        Command::Run { .. } | Command::Spool | Command::Serve { .. } | Command::Try { .. } => {
+            warm(alloc, rows)
+        }
         _ => {}
     }
 }

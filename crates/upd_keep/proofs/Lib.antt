@@ -1,4 +1,3 @@
-mod ReadTexts
 mod Listing
 mod VersionRows
 mod Copies

@@ -22,9 +22,10 @@ use Rattle.upd_records.specs.Rows.{Rows}
 use Rattle.upd_row_store.specs.Assembling.{AreRowsOf}
 use Rattle.upd_row_store.specs.Keeping.{IsLost}
 use Rattle.upd_row_store.specs.Tables.{AreRead}
-use Rattle.upd_sql.specs.Commits.{MayKeep}
+use Rattle.upd_sql.specs.Commits.{MayKeep, WasOpen}
 use Rattle.upd_sql.specs.LibraryTables.{ShowsTables}
 use Rattle.upd_sql.specs.Schema.{library_schema, meta}
+use Rattle.upd_sqlite.specs.Steps.{Steps}
 use Rattle.upd_sqlite.specs.Stored.{HasRows}
 use Rattle.upd_keep.specs.Keeping.{AreKept}
 use Rattle.upd_keep.specs.declared.all_rows.AllRows.{AllRows}
@@ -36,6 +37,12 @@ use Rattle.upd_keep.specs.declared.file_examination.Report.TheVariants.{Library,
 -- where the schema is the library's, the table of the version has one row
 abbrev pub HasOneVersion : Database → Type 0
 HasOneVersion db = db.schema ≡ library_schema → (rows : List Row) → HasRows db.trees meta rows → length rows ≡ 1
+
+-- The table of the version was read inside a transaction.
+pub record SeesVersion {X : Type 0} (old new : State) (r : Result X Error) : Type 0 where
+  pub steps : Steps old new r
+  pub was_open : WasOpen old new r
+  pub one : HasCleanDisk new → IfOk r (λ _. HasOneVersion old.now)
 
 -- The rows of tables, each as often as it is there.
 pub record AreAllRows (rows : Rows) (all : AllRows) : Type 0 where

@@ -1,21 +1,10 @@
 -- What is read of the tables of runs and of marks, and the lines that are made of it.
 use Rattle.std.specs.Prelude.{◌≡◌, ℕ, List}
-use Rattle.std.specs.Cmp.Lexicographic.{slice_cmp}
-use Rattle.std.specs.Ordering.{nat_cmp, ordering_then}
-use Rattle.std.specs.declared.cmp.Ordering.{Ordering}
 use Rattle.upd_views.specs.RunLines.{run_lines}
 use Rattle.upd_views.specs.SiteLines.{AreSiteLines}
 use Rattle.upd_records.specs.Rows.{MarkRow, Rows, RunView}
-use Rattle.upd_sql.specs.Listed.{AreInOrder}
+use Rattle.upd_sql.specs.Listed.{AreInOrder, by_key, by_site}
 use Rattle.upd_keep.specs.declared.kept.Kept.{Kept}
-
--- runs by site, then by number
-abbrev pub by_key : RunView → RunView → Ordering
-by_key a b = ordering_then (slice_cmp nat_cmp a.site b.site) (nat_cmp a.number b.number)
-
--- marks by site
-abbrev pub by_site : MarkRow → MarkRow → Ordering
-by_site a b = slice_cmp nat_cmp a.site b.site
 
 -- The stored runs and the marks of tables, each as often as it is there, in order.
 pub record AreKept (rows : Rows) (kept : Kept) : Type 0 where

@@ -9,9 +9,6 @@ mod file_examination;
 mod kept;
 mod looking_at;
 mod run_reads;
-mod run_records;
-mod run_tables;
-mod run_texts;
 mod situation;
 mod versions;
 

@@ -4,17 +4,27 @@ ghost use Rattle.sqlite.specs.Held.{state};
 ghost use Rattle.sqlite.specs.State.{HasCleanDisk, Survives};
 ghost use Rattle.upd_records.specs.Rows.{Rows};
 ghost use Rattle.upd_row_store.specs.Keeping.{IsLost};
+ghost use Rattle.upd_sql.specs.Commits.{Inside, Looks};
 ghost use Rattle.upd_sql.specs.LibraryTables.{ShowsTables};
 ghost use Rattle.upd_keep.specs.Keeping.{AreKept, HasRunLines, HasSiteLines};
 
 use crate::kept::Kept;
-use crate::run_tables::kept_in;
-use sqlite::{Connection, Error};
+use sqlite::{Alter, Connection, Error, Transaction};
 use std::alloc::Global;
+use upd_sql::{marks_in, runs_in};
 use upd_sqlite::{Rising, begin};
 use upd_store::{fault_of, store_at};
 use upd_text::{Fault, FaultKind};
 use upd_views::{run_lines, site_lines};
+
+/// The stored runs and the marks, inside a transaction.
+fn kept_in<S: Alter>(tx: &mut Transaction<'_, S>, alloc: Global) -> Result<Kept, Error>
+    ensures { Inside (state S.Store) (Looks AreKept) tx.old.conn tx.new.conn result }
+{
+    let runs = runs_in(tx, alloc)?;
+    let marks = marks_in(tx, alloc)?;
+    Ok(Kept { runs, marks })
+}
 
 /// The stored runs by site and number, and the marks by site. Nothing changes.
 pub fn stored_kept<S: Rising>(conn: &mut Connection<S>, alloc: Global) -> Result<Kept, Error>

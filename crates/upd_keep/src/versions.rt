@@ -2,25 +2,20 @@
 ghost use Rattle.std.specs.Prelude.{◌≡◌, false, IfOk, IsTrue};
 ghost use Rattle.sqlite.specs.Held.{state};
 ghost use Rattle.sqlite.specs.State.{HasCleanDisk, Survives};
-ghost use Rattle.upd_sqlite.specs.Steps.{Steps};
-ghost use Rattle.upd_sql.specs.Commits.{WasOpen};
-ghost use Rattle.upd_keep.specs.Examining.{HasOneVersion};
+ghost use Rattle.upd_sql.specs.Commits.{Inside};
+ghost use Rattle.upd_keep.specs.Examining.{HasOneVersion, SeesVersion};
 
-use crate::run_records::ILLEGIBLE;
-use crate::run_tables::rows_of;
-use crate::run_texts;
 use sqlite::{Alter, Connection, Error, Transaction};
+use upd_sql::{ILLEGIBLE, rows_of};
 use upd_sqlite::{Rising, begin};
+
+const ALL_VERSIONS: &str = "SELECT k, v FROM meta";
 
 /// Reads the table inside a transaction. DatabaseCorrupt where it hasn't just one row.
 fn only_version_in<S: Alter>(tx: &mut Transaction<'_, S>) -> Result<(), Error>
-    ensures same_reference { tx.new.conn.ghost_name ≡ tx.old.conn.ghost_name }
-    ensures steps { Steps (state S.Store tx.old.conn.now) (state S.Store tx.new.conn.now) result }
-    ensures was_open { WasOpen (state S.Store tx.old.conn.now) (state S.Store tx.new.conn.now) result }
-    ensures one { HasCleanDisk (state S.Store tx.new.conn.now)
-        → IfOk result (λ _. HasOneVersion (state S.Store tx.old.conn.now).now) }
+    ensures { Inside (state S.Store) SeesVersion tx.old.conn tx.new.conn result }
 {
-    let rows = rows_of(tx, run_texts::ALL_VERSIONS)?;
+    let rows = rows_of(tx, ALL_VERSIONS, &[])?;
     match rows.len() {
         1 => Ok(()),
         _ => Err(ILLEGIBLE),

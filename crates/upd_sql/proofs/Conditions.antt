@@ -1,13 +1,7 @@
 -- What the tests of the texts say of the rows of records.
-use Rattle.std.proofs.Common.{◌≡◌, ℕ, ◌==◌, nat_eq, Bool, ◌&&◌, List, [], ◌∷◌, refl, ap₂, ◌∙◌, arith, bytes_eq, pos, int_cmp, is_eq, true, false, ◌||◌, Some, ap}
+use Rattle.std.proofs.Common.{◌≡◌, ℕ, ◌==◌, nat_eq, Bool, ◌&&◌, List, [], ◌∷◌, refl, ap₂, ◌∙◌, arith, bytes_eq}
 use Rattle.std.specs.List.{list_all}
 use Rattle.std.proofs.lemmas.Bool.Decides.{nat_tests}
-use Rattle.std.proofs.lemmas.Int.{ints}
-use Rattle.sqlite_value.specs.declared.keys.Collation.TheVariants.{Binary}
-use Rattle.sqlite_value.proofs.OrderLemmas.{value_cmp-Int}
-use Rattle.sqlite_sql.specs.declared.ops.BinaryOp.TheVariants.{Compare, Or}
-use Rattle.sqlite_sql.specs.declared.ops.CompareOp.TheVariants.{Eq}
-use Rattle.sqlite_sql.specs.Ops.{binary, from_truth, is_true}
 use Rattle.sqlite_value.specs.declared.value.Value.TheVariants.{Null, Text}
 use Rattle.sqlite_value.specs.Order.{Row}
 use Rattle.sqlite_sql.specs.Term.{Term, holds}
@@ -18,10 +12,9 @@ use Rattle.upd_core.specs.Targets.{is_same}
 use Rattle.upd_records.specs.Rows.{CardRow, EntryRow, TargetRow, RunView, StateRow, CountRow, MarkRow, same_ref}
 use Rattle.upd_row_store.specs.Tables.{is_run, is_settled, is_mark_of}
 use Rattle.upd_sqlite.proofs.Tests.{eq_text, eq_nat, le_nat, one_test, two_tests, three_tests}
-use Rattle.upd_sql.specs.Encoded.{num, target_code, card_row, entry_row, kept_state, target_row, run_row, state_row, count_row, mark_row}
-use Rattle.upd_sql.proofs.WriteTexts.{delete_card_tests, delete_entries_tests, delete_targets_tests, delete_state_tests, delete_count_tests}
-use Rattle.upd_sql.proofs.WriteTexts.{delete_mark_tests, delete_runs_tests, update_state_tests}
-use Rattle.upd_sql.proofs.ReadTexts.{cards_of_deck_tests, ident_tests, run_of_key_tests, mark_of_site_tests}
+use Rattle.upd_sql.specs.Encoded.{num, target_code, card_row, entry_row, target_row, run_row, state_row, count_row, mark_row}
+use Rattle.upd_sql.proofs.WriteTexts.{card_tests, delete_count_tests, delete_runs_tests, first_tests}
+use Rattle.upd_sql.proofs.ReadTexts.{run_of_key_tests, mark_of_site_tests}
 
 pub bytes_flip : (a b : List ℕ) → bytes_eq a b ≡ bytes_eq b a
 bytes_flip [] [] = refl
@@ -43,25 +36,19 @@ card_params c = Text c.name ∷ num c.number ∷ []
 abbrev pub passes : Row → List Term → Row → Bool
 passes params tests v = list_all (holds (params ∷ (Null ∷ v) ∷ [])) tests
 
-pub card_named : (c : CardRef) (r : CardRow) → passes (card_params c) delete_card_tests (card_row r) ≡ same_ref c r.card
+pub card_named : (c : CardRef) (r : CardRow) → passes (card_params c) card_tests (card_row r) ≡ same_ref c r.card
 card_named c r = two_tests (eq_text r.card.name c.name ∙ bytes_flip r.card.name c.name) (eq_nat r.card.number c.number ∙ nat_flip r.card.number c.number)
 
-pub entry_named : (c : CardRef) (r : EntryRow) → passes (card_params c) delete_entries_tests (entry_row r) ≡ same_ref c r.card
+pub entry_named : (c : CardRef) (r : EntryRow) → passes (card_params c) card_tests (entry_row r) ≡ same_ref c r.card
 entry_named c r = two_tests (eq_text r.card.name c.name ∙ bytes_flip r.card.name c.name) (eq_nat r.card.number c.number ∙ nat_flip r.card.number c.number)
 
-pub entry_of : (ident : List ℕ) (r : EntryRow) → passes (Text ident ∷ []) ident_tests (entry_row r) ≡ bytes_eq ident r.card.name
-entry_of ident r = one_test (eq_text r.card.name ident ∙ bytes_flip r.card.name ident)
-
-pub status_of : (ident : List ℕ) (p : CardRef × Bool) → passes (Text ident ∷ []) ident_tests (kept_state p) ≡ bytes_eq ident p.0.name
-status_of ident p = one_test (eq_text p.0.name ident ∙ bytes_flip p.0.name ident)
-
-pub target_named : (c : CardRef) (r : TargetRow) → passes (card_params c) delete_targets_tests (target_row r) ≡ same_ref c r.card
+pub target_named : (c : CardRef) (r : TargetRow) → passes (card_params c) card_tests (target_row r) ≡ same_ref c r.card
 target_named c r = two_tests (eq_text r.card.name c.name ∙ bytes_flip r.card.name c.name) (eq_nat r.card.number c.number ∙ nat_flip r.card.number c.number)
 
-pub state_named : (c : CardRef) (r : StateRow) → passes (card_params c) delete_state_tests (state_row r) ≡ same_ref c r.card
+pub state_named : (c : CardRef) (r : StateRow) → passes (card_params c) card_tests (state_row r) ≡ same_ref c r.card
 state_named c r = two_tests (eq_text r.card.name c.name ∙ bytes_flip r.card.name c.name) (eq_nat r.card.number c.number ∙ nat_flip r.card.number c.number)
 
-pub state_told : (r s : StateRow) → passes (state_row r) update_state_tests (state_row s) ≡ same_ref r.card s.card
+pub state_told : (r s : StateRow) → passes (state_row r) card_tests (state_row s) ≡ same_ref r.card s.card
 state_told r s = two_tests (eq_text s.card.name r.card.name ∙ bytes_flip s.card.name r.card.name) (eq_nat s.card.number r.card.number
     ∙ nat_flip s.card.number r.card.number)
 
@@ -80,7 +67,7 @@ same_codes (Deck a) (Deck b) n = three_tests (eq_nat 2 2) (eq_nat b a) (eq_nat 0
 pub count_named : (t : Target) (r : CountRow) → passes (target_code t) delete_count_tests (count_row r) ≡ is_same t r.target
 count_named t r = same_codes t r.target r.n
 
-pub mark_named : (site : List ℕ) (r : MarkRow) → passes (Text site ∷ []) delete_mark_tests (mark_row r) ≡ is_mark_of site r
+pub mark_named : (site : List ℕ) (r : MarkRow) → passes (Text site ∷ []) first_tests (mark_row r) ≡ is_mark_of site r
 mark_named site r = one_test (eq_text r.site site)
 
 pub mark_found : (site : List ℕ) (r : MarkRow) → passes (Text site ∷ []) mark_of_site_tests (mark_row r) ≡ is_mark_of site r
@@ -91,21 +78,3 @@ run_found site number r = two_tests (eq_text r.site site) (eq_nat r.number numbe
 
 pub run_settled : (site : List ℕ) (number : ℕ) (r : RunView) → passes (Text site ∷ num number ∷ []) delete_runs_tests (run_row r) ≡ is_settled site number r
 run_settled site number r = two_tests (eq_text r.site site) (le_nat r.number number)
-
-compared : (a b : ℕ) → binary (Compare Eq Binary) (num a) (num b) ≡ from_truth (Some (a == b))
-unfolding binary
-compared a b = ap (λ o. from_truth (Some (is_eq o))) (value_cmp-Int (pos a) (pos b)) ∙ ap (λ t. from_truth (Some t)) (by a b)
-  where
-    by : (m n : ℕ) → is_eq (int_cmp (pos m) (pos n)) ≡ (m == n)
-    by m n = grind (arith, ints, nat_tests)
-
-one_of : (p q : Bool) → is_true (binary Or (from_truth (Some p)) (from_truth (Some q))) ≡ (p || q)
-unfolding binary
-one_of true true = refl
-one_of true false = refl
-one_of false true = refl
-one_of false false = refl
-
--- a card is in `YANK$$$` or in a deck
-pub in_deck : (deck : ℕ) (r : CardRow) → passes (num deck ∷ []) cards_of_deck_tests (card_row r) ≡ ((r.deck == 0) || (r.deck == deck))
-in_deck deck r = one_test (ap₂ (λ u v. is_true (binary Or u v)) (compared r.deck 0) (compared r.deck deck) ∙ one_of (r.deck == 0) (r.deck == deck))

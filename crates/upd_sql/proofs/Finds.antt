@@ -17,7 +17,8 @@ use Rattle.upd_sql.specs.Encoded.{num, run_row, mark_row, stored}
 use Rattle.upd_sql.specs.LibraryTables.{HoldsTables}
 use Rattle.upd_sql.proofs.Typed.{reads_exactly}
 use Rattle.upd_sql.proofs.Conditions.{run_found, mark_found}
-use Rattle.upd_sql.proofs.ReadTexts as query
+use Rattle.upd_sql.proofs.ReadTexts.{two, six, run_of_key, run_of_key_tests, mark_of_site, mark_of_site_tests}
+use Rattle.upd_sql.specs.declared.texts.TheConstants as sql
 
 -- a plain query leaves the tables
 pub untouched : {X : Type 0} (items : X → List Row) (sql : List ℕ) (params : Row) (old new : State) (r : Result X Error)
@@ -28,18 +29,16 @@ untouched items sql params old new (Ok x) plain shown = λ schema.
 untouched items sql params old new (Err e) plain shown = tt
 
 module _ (old new : State) (rows : List Row) (it : Rows) (h : HoldsTables it old.now) where
-  pub runs_found : (site : List ℕ) (number : ℕ) → Shown query.run_of_key (Text site ∷ num number ∷ []) old new rows → rows
-      ≡ map run_row (filter (is_run site number) it.runs)
+  pub runs_found : (site : List ℕ) (number : ℕ) → Shown sql.RUN_OF_KEY.now (Text site ∷ num number ∷ []) old new rows
+      → rows ≡ map run_row (filter (is_run site number) it.runs)
   runs_found site number shown =
-      reads_exactly 5 10 refl run_row (stored it) it.runs refl query.run_of_key (Text site ∷ num number ∷ []) query.run_of_key_plain query.run_of_key_unlisted old
-      new rows shown h
-      query.run_of_key_tests query.run_of_key_shown _ query.run_of_key_is refl refl (is_run site number) (run_found site number) (λ r. refl)
+      reads_exactly 5 10 refl run_row (stored it) it.runs refl _ _ old new rows shown h run_of_key_tests six run_of_key refl refl
+      (is_run site number) (run_found site number) (λ r. refl)
 
-  pub marks_found : (site : List ℕ) → Shown query.mark_of_site (Text site ∷ []) old new rows → rows ≡ map mark_row (filter (is_mark_of site) it.settled)
+  pub marks_found : (site : List ℕ) → Shown sql.MARK_OF_SITE.now (Text site ∷ []) old new rows → rows ≡ map mark_row (filter (is_mark_of site) it.settled)
   marks_found site shown =
-      reads_exactly 8 16 refl mark_row (stored it) it.settled refl query.mark_of_site (Text site ∷ []) query.mark_of_site_plain query.mark_of_site_unlisted old
-      new rows shown h
-      query.mark_of_site_tests query.mark_of_site_shown _ query.mark_of_site_is refl refl (is_mark_of site) (mark_found site) (λ r. refl)
+      reads_exactly 8 16 refl mark_row (stored it) it.settled refl _ _ old new rows shown h mark_of_site_tests two mark_of_site refl refl
+      (is_mark_of site) (mark_found site) (λ r. refl)
 
 -- the first of a site's marks is the site's mark
 pub first_is_mark : (site : List ℕ) (it : Rows) → first_mark (filter (is_mark_of site) it.settled) ≡ mark_at site it

@@ -1,5 +1,5 @@
 -- What a query returns of records that are stored as rows: the rows of those that pass, in an order that ORDER BY allows.
-use Rattle.std.proofs.Common.{◌≡◌, ℕ, ◌+◌, ◌<◌, Bool, true, false, List, [], ◌∷◌, map, filter, length, refl, sym, ap, ap₂, subst, ◌∙◌, arith}
+use Rattle.std.proofs.Common.{◌≡◌, ℕ, ◌+◌, ◌<◌, Bool, true, List, [], ◌∷◌, map, filter, length, refl, sym, ap, ap₂, subst, ◌∙◌, arith}
 use Rattle.std.proofs.Common.{IsPermutation, IsSorted}
 use Rattle.std.specs.List.{list_all}
 use Rattle.std.specs.Ordering.{is_lt, on}
@@ -10,20 +10,18 @@ use Rattle.sqlite_value.specs.declared.value.Value.TheVariants.{Null}
 use Rattle.sqlite_value.specs.Order.{Row}
 use Rattle.sqlite_sql.specs.Query.{Output, key_cmp, sort_cmp}
 use Rattle.sqlite_sql.specs.Term.{Term, eval_all, holds}
-use Rattle.sqlite_schema.specs.declared.command.Command.TheVariants.{Select}
 use Rattle.sqlite_keyed.proofs.ListLemmas.{along_permutation, map-map, filter-map, filter_same, map_same}
-use Rattle.sqlite.specs.Listing.{understood, reads_listing}
 use Rattle.sqlite.specs.State.{State, Shown}
-use Rattle.sqlite.proofs.Callers.{IsPlain, command_of, reads_as}
+use Rattle.sqlite.proofs.Callers.{reads_as}
 use Rattle.upd_records.specs.Rows.{IsSame}
 use Rattle.upd_records.proofs.CountLemmas.{count_cons, same_of, same_trans, same_append}
-use Rattle.upd_sqlite.specs.Keyed.{plain_query}
 use Rattle.upd_sqlite.specs.Stored.{HoldsAllRows, rows_at}
 use Rattle.upd_sqlite.proofs.Frames.{is_lone, showing}
 use Rattle.upd_sqlite.proofs.Shapes.{selects}
 use Rattle.upd_sql.specs.Schema.{library_schema}
 use Rattle.upd_sql.specs.Listed.{AreInOrder}
 use Rattle.upd_sql.proofs.Bare.{is_bare, bare_tests, bare_values}
+use Rattle.upd_sql.proofs.ReadTexts.{Reads}
 use Rattle.upd_sql.proofs.Typed.{own}
 
 -- ---- what comes from a list's images in another order
@@ -80,24 +78,20 @@ ordered_as cmp other xs ys us same are h =
 -- ---- the answer of a query on records
 
 pub lists : (k tree : ℕ) (alone : is_lone tree k library_schema.tables ≡ true) {X : Type 0} (row out : X → Row) (all : List (List Row)) (xs : List X)
-    (are : rows_at k all ≡ map row xs)
-    (sql : List ℕ) (params : Row) (plain : IsPlain (understood library_schema sql)) (unlisted : reads_listing library_schema sql ≡ false) (old new : State)
-    (rows : List Row)
-    (shown : Shown sql params old new rows) (h : HoldsAllRows library_schema all old.now) (tests project : List Term) (order : List (Term × Key))
-    (names : List (List ℕ))
-    → command_of (understood library_schema sql) ≡ Select (record { lets = []; body = plain_query tree tests project order }) names
+    (are : rows_at k all ≡ map row xs) (sql : List ℕ) (params : Row) (old new : State) (rows : List Row) (shown : Shown sql params old new rows)
+    (h : HoldsAllRows library_schema all old.now) (tests project : List Term) (order : List (Term × Key)) → Reads sql tree tests project order
     → list_all is_bare tests ≡ true → list_all is_bare project ≡ true → list_all is_bare (map (λ o. o.0) order) ≡ true
     → (q : X → Bool) → ((x : X) → list_all (holds (params ∷ (Null ∷ row x) ∷ [])) tests ≡ q x)
     → ((x : X) → eval_all project (params ∷ (Null ∷ row x) ∷ []) ≡ out x)
     → (us : List X) × (rows ≡ map out us)
     × AreInOrder (λ x y. sort_cmp order (params ∷ (Null ∷ row x) ∷ []) (params ∷ (Null ∷ row y) ∷ [])) (filter q xs) us
-lists k tree alone row out all xs are sql params plain unlisted old new rows shown h tests project order names is bare bare_shown bare_order q means whole =
-    let reads = reads_as sql params old new library_schema h.schema_is _ is plain unlisted rows shown in
+lists k tree alone row out all xs are sql params old new rows shown h tests project order query bare bare_shown bare_order q means whole =
+    let reads = reads_as sql params old new library_schema h.schema_is _ query.is query.plain query.unlisted rows shown in
     let p = λ (v : Row). list_all (holds (params ∷ (Null ∷ v) ∷ [])) tests in
     let f = λ (v : Row). eval_all project (params ∷ (Null ∷ v) ∷ []) in
     let g = λ (v : Row). eval_all (map (λ o. o.0) order) (params ∷ (Null ∷ v) ∷ []) in
     let put : _ → Output = λ x. (g (row x), f (row x)) in
-    let found = selects library_schema k tree alone old.now all params (showing library_schema all old.now h) tests project order p f g names
+    let found = selects library_schema k tree alone old.now all params (showing library_schema all old.now h) tests project order p f g query.names
     (own old.now.trees tree) (λ r. bare_tests params r tests bare) (λ r. bare_values params r project bare_shown)
     (λ r. bare_values params r (map (λ o. o.0) order) bare_order) rows reads in
     let passing : map (λ v. (g v, f v)) (filter p (rows_at k all)) ≡ map put (filter q xs) =

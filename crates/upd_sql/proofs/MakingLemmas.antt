@@ -94,7 +94,7 @@ next_made n sql m old new count ran h =
 -- the version is written
 pub version_written : (old new : State) (count : ℕ) → Executes text.insert_version [] old new (Ok count) → HasEmptyTables 9 old.now → HoldsTables no_rows new.now
 version_written old new count ran h =
-    let w = runs_as text.insert_version [] old new library_schema h.schema_is _ text.insert_version_is text.insert_version_plain count ran in
+    let w = runs_as text.insert_version [] old new library_schema h.schema_is _ text.insert_version_does.is text.insert_version_does.plain count ran in
     subst (λ row. HoldsAllRows library_schema ((row ∷ []) ∷ [] ∷ [] ∷ [] ∷ [] ∷ [] ∷ [] ∷ [] ∷ [] ∷ []) new.now) (rw (cast_int (pos 3)) refl)
     (inserts library_schema 0 0 (codes "meta") meta_columns (1 ∷ []) refl refl (λ _ _. refl) old new (no_rows_in 9) _ [] count h
     (lit Null ∷ lit (Text (codes "version")) ∷ lit (Int (pos 3)) ∷ []) 3 (version_row 3) refl w)

@@ -10,14 +10,14 @@ use Rattle.sqlite_sql.specs.Program.{overlay}
 use Rattle.sqlite_sql.specs.Term.{Term, col, eval_all, holds}
 use Rattle.sqlite_schema.specs.declared.schema.Column.{Column}
 use Rattle.sqlite_schema.specs.declared.schema.Keys.TheVariants.{Enforced}
-use Rattle.sqlite_schema.specs.declared.command.Command.TheVariants.{Insert, Delete, Update, Select}
+use Rattle.sqlite_schema.specs.declared.command.Command.TheVariants.{Insert, Delete, Update}
 use Rattle.sqlite_schema.specs.declared.command.Source.TheVariants.{Values}
 use Rattle.sqlite_rules.specs.Cast.{cast_all}
 use Rattle.sqlite_rules.specs.Action.{works}
 use Rattle.sqlite_keyed.proofs.ListLemmas.{map-map, filter-map, filter_same}
 use Rattle.sqlite.specs.declared.error.Error.{Error}
 use Rattle.sqlite.specs.Effect.{value_rows}
-use Rattle.sqlite.specs.Listing.{understood, reads_listing}
+use Rattle.sqlite.specs.Listing.{understood}
 use Rattle.sqlite.specs.State.{State, Executes, Shown, Survives}
 use Rattle.sqlite.proofs.Callers.{IsPlain, command_of, runs_as, reads_as}
 use Rattle.upd_records.specs.Rows.{Rows}
@@ -30,6 +30,7 @@ use Rattle.upd_sqlite.proofs.Answers.{shown_was_open}
 use Rattle.upd_sql.specs.Schema.{library_schema}
 use Rattle.upd_sql.specs.LibraryTables.{HoldsTables, AnyTables}
 use Rattle.upd_sqlite.proofs.Chains.{makes_then, makes_as}
+use Rattle.upd_sql.proofs.ReadTexts.{Reads}
 use Rattle.upd_sql.proofs.Bare.{is_bare, bare_tests, bare_values}
 
 pub own : (db : Trees) (t : ℕ) → overlay db [] t ≡ db t
@@ -101,20 +102,17 @@ module _ (k tree : ℕ) (name : List ℕ) (columns : List Column) (key : List �
 
 -- what a query by rowid shows of the records that pass: their rows, in the order in which they came
 pub reads_exactly : (k tree : ℕ) (alone : is_lone tree k library_schema.tables ≡ true) {X : Type 0} (row : X → Row) (all : List (List Row)) (xs : List X)
-    (are : rows_at k all ≡ map row xs)
-    (sql : List ℕ) (params : Row) (plain : IsPlain (understood library_schema sql)) (unlisted : reads_listing library_schema sql ≡ false) (old new : State)
-    (rows : List Row)
-    (shown : Shown sql params old new rows) (h : HoldsAllRows library_schema all old.now) (tests project : List Term) (names : List (List ℕ))
-    → command_of (understood library_schema sql) ≡ Select (record { lets = []; body = plain_query tree tests project row_order }) names
+    (are : rows_at k all ≡ map row xs) (sql : List ℕ) (params : Row) (old new : State) (rows : List Row) (shown : Shown sql params old new rows)
+    (h : HoldsAllRows library_schema all old.now) (tests project : List Term) → Reads sql tree tests project row_order
     → list_all is_bare tests ≡ true → list_all is_bare project ≡ true
     → (q : X → Bool) → ((x : X) → list_all (holds (params ∷ (Null ∷ row x) ∷ [])) tests ≡ q x)
     → ((x : X) → eval_all project (params ∷ (Null ∷ row x) ∷ []) ≡ row x)
     → rows ≡ map row (filter q xs)
-reads_exactly k tree alone row all xs are sql params plain unlisted old new rows shown h tests project names is bare bare_shown q means whole =
-    let reads = reads_as sql params old new library_schema h.schema_is _ is plain unlisted rows shown in
+reads_exactly k tree alone row all xs are sql params old new rows shown h tests project query bare bare_shown q means whole =
+    let reads = reads_as sql params old new library_schema h.schema_is _ query.is query.plain query.unlisted rows shown in
     let p = λ (v : Row). list_all (holds (params ∷ (Null ∷ v) ∷ [])) tests in
     let f = λ (v : Row). eval_all project (params ∷ (Null ∷ v) ∷ []) in
-    reads_in_order library_schema k tree alone old.now all params h tests project p f names (own old.now.trees tree) (λ r. bare_tests params r tests bare)
+    reads_in_order library_schema k tree alone old.now all params h tests project p f query.names (own old.now.trees tree) (λ r. bare_tests params r tests bare)
     (λ r. bare_values params r project bare_shown) rows reads
     ∙ ap (λ rs. map f (filter p rs)) are ∙ ap (map f) (filter-map p row xs ∙ ap (map row) (filter_same _ _ means xs)) ∙ map-map f row _
     ∙ Rattle.sqlite_keyed.proofs.ListLemmas.map_same _ row whole _

@@ -1,36 +1,40 @@
 -- Reading whole tables: the rows of an answer are the table's, in any order, and each is read as the record that it stores.
-use Rattle.std.proofs.Common.{◌≡◌, ℕ, ◌+◌, ◌<◌, Bool, true, List, [], ◌∷◌, ◌++◌, map, filter, take, length, get_or, Result, Ok, Err, refl, sym, ap, ap₂, subst, ◌∙◌}
-use Rattle.std.proofs.Common.{arith, int_cmp, nat_cmp, pos, Ordering, Less, Equal, Greater, IsErr, IfOk}
+use Rattle.std.proofs.Common.{◌≡◌, ℕ, ◌+◌, ◌<◌, true, List, [], ◌∷◌, ◌++◌, map, filter, take, length, get_or, Result, Ok, Err, refl, sym, ap, ap₂, subst, ◌∙◌}
+use Rattle.std.proofs.Common.{arith, int_cmp, nat_cmp, pos, Ordering, IsErr, IfOk}
 use Rattle.std.specs.Ordering.{ordering_then}
-use Rattle.std.specs.Cmp.Lexicographic.{slice_cmp}
+use Rattle.std.specs.List.{list_all}
 use Rattle.std.proofs.lemmas.Bool.Decides.{nat_tests}
 use Rattle.std.proofs.lemmas.Int.{ints}
 use Rattle.std.proofs.lemmas.List.{take_more, get_or-map, length-map}
-use Rattle.sqlite_value.specs.declared.value.Value.TheVariants.{Null, Text}
+use Rattle.sqlite_value.specs.declared.value.Value.TheVariants.{Null}
 use Rattle.sqlite_value.specs.Order.{Row, value_cmp}
+use Rattle.sqlite_value.specs.declared.keys.Key.{Key}
 use Rattle.sqlite_value.proofs.OrderLemmas.{then-Equal, value_cmp-Int, value_cmp-Text}
 use Rattle.sqlite_sql.specs.Query.{sort_cmp}
-use Rattle.sqlite_sql.specs.Term.{eval_all}
+use Rattle.sqlite_sql.specs.Term.{Term, eval_all}
 use Rattle.sqlite.specs.declared.error.Error.{Error}
 use Rattle.sqlite.specs.Effect.{Database}
-use Rattle.sqlite.specs.State.{State, HasCleanDisk, Shown}
+use Rattle.sqlite.specs.Given.{IsPlain}
+use Rattle.sqlite.specs.Listing.{understood}
+use Rattle.sqlite.specs.State.{State, Shown}
 use Rattle.sqlite_keyed.proofs.ListLemmas.{map-map}
-use Rattle.upd_text.specs.declared.card_ref.CardRef.{CardRef}
-use Rattle.upd_text.specs.Order.{by_name}
-use Rattle.upd_core.specs.declared.ident.Ident.{Ident}
 use Rattle.upd_core.specs.declared.target.Target.{Target}
 use Rattle.upd_core.specs.declared.target.Target.TheVariants.{Set, SetIn, Deck}
-use Rattle.upd_records.specs.Rows.{CardRow, EntryRow, IsSame, Rows, StateRow, TargetRow}
+use Rattle.upd_records.specs.Rows.{MarkRow, Rows, RunView, TargetRow}
 use Rattle.upd_row_store.specs.Tables.{state_pair, count_pair}
+use Rattle.upd_sqlite.specs.Stored.{rows_at}
+use Rattle.upd_sqlite.proofs.Frames.{is_lone}
 use Rattle.upd_sqlite.proofs.Chains.{clean_before, steps_then}
-use Rattle.upd_sqlite.specs.Steps.{Steps}
 use Rattle.upd_sql.specs.Schema.{library_schema}
-use Rattle.upd_sql.specs.Listed.{AreInOrder, by_age, by_entry, by_place, by_state_row, by_target, in_any_order}
-use Rattle.upd_sql.specs.Commits.{Looks, WasOpen, LeavesTables}
-use Rattle.upd_sql.specs.Encoded.{num, ident_row, card_row, entry_row, target_row, state_row, kept_state, kept_count, stored}
+use Rattle.upd_sql.specs.Listed.{AreInOrder, by_key, by_site, in_any_order}
+use Rattle.upd_sql.specs.Commits.{IsAnswered, Looks}
+use Rattle.upd_sql.specs.Encoded.{num, ident_row, card_row, entry_row, target_row, run_row, state_row, kept_state, kept_count, mark_row, stored}
 use Rattle.upd_sql.specs.LibraryTables.{HoldsTables}
 use Rattle.upd_sql.proofs.Listed.{lists, ordered_as}
-use Rattle.upd_sql.proofs.ReadTexts as query
+use Rattle.upd_sql.proofs.Bare.{is_bare}
+use Rattle.upd_sql.proofs.ReadTexts.{Reads, two, three, four, five, six, runs_order, marks_order}
+use Rattle.upd_sql.proofs.ReadTexts.{all_idents, all_cards, all_entries, all_targets, all_states, all_counts, all_runs, all_marks}
+use Rattle.upd_sql.specs.declared.texts.TheConstants as sql
 
 -- ---- rows one after another
 
@@ -48,18 +52,18 @@ pub all_pass : {X : Type 0} (xs : List X) → filter (λ _. true) xs ≡ xs
 all_pass [] = refl
 all_pass (x ∷ xs) = ap (λ l. x ∷ l) (all_pass xs)
 
-target_whole : (r : TargetRow) → eval_all query.all_targets_shown ([] ∷ (Null ∷ target_row r) ∷ []) ≡ target_row r
+target_whole : (r : TargetRow) → eval_all six ([] ∷ (Null ∷ target_row r) ∷ []) ≡ target_row r
 target_whole r = by r.target
   where
-    by : (t : Target) → eval_all query.all_targets_shown ([] ∷ (Null ∷ target_row (record r { target = t })) ∷ []) ≡ target_row (record r { target = t })
+    by : (t : Target) → eval_all six ([] ∷ (Null ∷ target_row (record r { target = t })) ∷ []) ≡ target_row (record r { target = t })
     by (Set a) = refl
     by (SetIn a d) = refl
     by (Deck d) = refl
 
-count_whole : (c : Target × ℕ) → eval_all query.all_counts_shown ([] ∷ (Null ∷ kept_count c) ∷ []) ≡ kept_count c
+count_whole : (c : Target × ℕ) → eval_all four ([] ∷ (Null ∷ kept_count c) ∷ []) ≡ kept_count c
 count_whole c = by c.0
   where
-    by : (t : Target) → eval_all query.all_counts_shown ([] ∷ (Null ∷ kept_count (t, c.1)) ∷ []) ≡ kept_count (t, c.1)
+    by : (t : Target) → eval_all four ([] ∷ (Null ∷ kept_count (t, c.1)) ∷ []) ≡ kept_count (t, c.1)
     by (Set a) = refl
     by (SetIn a d) = refl
     by (Deck d) = refl
@@ -72,84 +76,59 @@ nat_order m n = value_cmp-Int (pos m) (pos n) ∙ by
     by : int_cmp (pos m) (pos n) ≡ nat_cmp m n
     by = grind (arith, ints, nat_tests)
 
-pub last_order : (m n : ℕ) → ordering_then (value_cmp (num m) (num n)) Equal ≡ nat_cmp m n
-last_order m n = then-Equal _ ∙ nat_order m n
+runs_up : (a b : RunView) → sort_cmp runs_order ([] ∷ (Null ∷ run_row a) ∷ []) ([] ∷ (Null ∷ run_row b) ∷ []) ≡ by_key a b
+runs_up a b = ap₂ ordering_then (value_cmp-Text a.site b.site) (then-Equal _ ∙ nat_order a.number b.number)
 
-then_assoc : (o p q : Ordering) → ordering_then o (ordering_then p q) ≡ ordering_then (ordering_then o p) q
-then_assoc Less p q = refl
-then_assoc Equal p q = refl
-then_assoc Greater p q = refl
-
-idents_order : (a b : Ident) → sort_cmp query.all_idents_order ([] ∷ (Null ∷ ident_row a) ∷ []) ([] ∷ (Null ∷ ident_row b) ∷ []) ≡ by_age a b
-idents_order a b = last_order a.age b.age
-
-pub cards_order : (a b : CardRow) → sort_cmp query.all_cards_order ([] ∷ (Null ∷ card_row a) ∷ []) ([] ∷ (Null ∷ card_row b) ∷ []) ≡ by_place a b
-cards_order a b = ap₂ ordering_then (nat_order a.deck b.deck) (last_order a.pos b.pos)
-
--- columns that name a card, and a number
-name_order : (a b : CardRef) (m n : ℕ) → ordering_then (value_cmp (Text a.name) (Text b.name))
-    (ordering_then (value_cmp (num a.number) (num b.number)) (ordering_then (value_cmp (num m) (num n)) Equal)) ≡ ordering_then (by_name a b) (nat_cmp m n)
-name_order a b m n =
-    ap₂ ordering_then (value_cmp-Text a.name b.name) (ap₂ ordering_then (nat_order a.number b.number) (last_order m n))
-    ∙ then_assoc (slice_cmp nat_cmp a.name b.name) (nat_cmp a.number b.number) (nat_cmp m n)
-
-entries_order : (a b : EntryRow) → sort_cmp query.all_entries_order ([] ∷ (Null ∷ entry_row a) ∷ []) ([] ∷ (Null ∷ entry_row b) ∷ []) ≡ by_entry a b
-entries_order a b = name_order a.card b.card a.ord b.ord
-
-targets_order : (a b : TargetRow) → sort_cmp query.all_targets_order ([] ∷ (Null ∷ target_row a) ∷ []) ([] ∷ (Null ∷ target_row b) ∷ []) ≡ by_target a b
-targets_order a b = name_order a.card b.card a.ord b.ord
-
-state_rows_order : (a b : StateRow) → sort_cmp query.all_states_order ([] ∷ (Null ∷ state_row a) ∷ []) ([] ∷ (Null ∷ state_row b) ∷ []) ≡ by_state_row a b
-state_rows_order a b = ap₂ ordering_then (value_cmp-Text a.card.name b.card.name) (last_order a.card.number b.card.number)
-
--- what is found in any order
-in_any : {X : Type 0} {wanted all : List X} (found : List X) → wanted ≡ all → IsSame found wanted → AreInOrder in_any_order all found
-in_any found are same = record { same = subst (IsSame found) are same; sorted = λ k d low high. refl }
+marks_up : (a b : MarkRow) → sort_cmp marks_order ([] ∷ (Null ∷ mark_row a) ∷ []) ([] ∷ (Null ∷ mark_row b) ∷ []) ≡ by_site a b
+marks_up a b = then-Equal _ ∙ value_cmp-Text a.site b.site
 
 -- ---- what each text answers
 
 module _ (old new : State) (it : Rows) (h : HoldsTables it old.now) (rows : List Row) where
-  pub idents_listed : Shown query.all_idents [] old new rows → (us : List (Ident)) × (rows ≡ map ident_row us) × AreInOrder by_age (it.idents) us
-  idents_listed shown =
-      let found = lists 1 2 refl ident_row ident_row (stored it) (it.idents) refl query.all_idents [] query.all_idents_plain query.all_idents_unlisted old new rows shown h
-      query.all_idents_tests query.all_idents_shown query.all_idents_order _ query.all_idents_is refl refl refl (λ _. true) (λ x. refl) (λ x. refl) in
-      (found.0, found.1, ordered_as _ by_age _ (it.idents) found.0 idents_order (all_pass (it.idents)) found.2)
+  -- the records of a whole table
+  abbrev Answers : {X : Type 0} → List ℕ → (X → Row) → (X → X → Ordering) → List X → Type 0
+  Answers sql row cmp xs = Shown sql [] old new rows → (us : List _) × (rows ≡ map row us) × AreInOrder cmp xs us
 
-  pub cards_listed : Shown query.all_cards [] old new rows → (us : List (CardRow)) × (rows ≡ map card_row us) × AreInOrder by_place (it.cards) us
-  cards_listed shown =
-      let found = lists 2 4 refl card_row card_row (stored it) (it.cards) refl query.all_cards [] query.all_cards_plain query.all_cards_unlisted old new rows shown h
-      query.all_cards_tests query.all_cards_shown query.all_cards_order _ query.all_cards_is refl refl refl (λ _. true) (λ x. refl) (λ x. refl) in
-      (found.0, found.1, ordered_as _ by_place _ (it.cards) found.0 cards_order (all_pass (it.cards)) found.2)
+  whole : (k tree : ℕ) (alone : is_lone tree k library_schema.tables ≡ true) {X : Type 0} (row : X → Row) (xs : List X)
+      (are : rows_at k (stored it) ≡ map row xs)
+      (sql : List ℕ) (shown : List Term) (order : List (Term × Key)) (cmp : X → X → Ordering) → Reads sql tree [] shown order → list_all is_bare shown ≡ true
+      → list_all is_bare (map (λ o. o.0) order) ≡ true → ((x : X) → eval_all shown ([] ∷ (Null ∷ row x) ∷ []) ≡ row x)
+      → ((x y : X) → sort_cmp order ([] ∷ (Null ∷ row x) ∷ []) ([] ∷ (Null ∷ row y) ∷ []) ≡ cmp x y) → Answers sql row cmp xs
+  whole k tree alone row xs are sql shown order cmp query bare bare_order kept up answer =
+      let found = lists k tree alone row row (stored it) xs are sql [] old new rows answer h [] shown order
+      query refl bare bare_order (λ _. true) (λ x. refl) kept in
+      (found.0, found.1, ordered_as _ cmp _ xs found.0 up (all_pass xs) found.2)
 
-  pub entries_listed : Shown query.all_entries [] old new rows → (us : List (EntryRow)) × (rows ≡ map entry_row us) × AreInOrder by_entry (it.entries) us
-  entries_listed shown =
-      let found = lists 3 6 refl entry_row entry_row (stored it) (it.entries) refl query.all_entries [] query.all_entries_plain query.all_entries_unlisted old new rows shown h
-      query.all_entries_tests query.all_entries_shown query.all_entries_order _ query.all_entries_is refl refl refl (λ _. true) (λ x. refl) (λ x. refl) in
-      (found.0, found.1, ordered_as _ by_entry _ (it.entries) found.0 entries_order (all_pass (it.entries)) found.2)
+  pub idents_listed : Answers sql.ALL_IDENTS.now ident_row in_any_order it.idents
+  idents_listed = whole 1 2 refl ident_row it.idents refl _ five [] in_any_order all_idents refl refl (λ x. refl) (λ x y. refl)
 
-  pub targets_listed : Shown query.all_targets [] old new rows → (us : List (TargetRow)) × (rows ≡ map target_row us) × AreInOrder by_target (it.targets) us
-  targets_listed shown =
-      let found = lists 4 8 refl target_row target_row (stored it) (it.targets) refl query.all_targets [] query.all_targets_plain query.all_targets_unlisted old new rows shown h
-      query.all_targets_tests query.all_targets_shown query.all_targets_order _ query.all_targets_is refl refl refl (λ _. true) (λ x. refl) target_whole in
-      (found.0, found.1, ordered_as _ by_target _ (it.targets) found.0 targets_order (all_pass (it.targets)) found.2)
+  pub cards_listed : Answers sql.ALL_CARDS.now card_row in_any_order it.cards
+  cards_listed = whole 2 4 refl card_row it.cards refl _ five [] in_any_order all_cards refl refl (λ x. refl) (λ x y. refl)
 
-  pub states_listed : Shown query.each_state [] old new rows → (us : List (CardRef × Bool)) × (rows ≡ map kept_state us) × AreInOrder in_any_order (map state_pair it.states) us
-  states_listed shown =
-      let found = lists 6 12 refl kept_state kept_state (stored it) (map state_pair it.states) (sym (map-map kept_state state_pair it.states)) query.each_state [] query.each_state_plain query.each_state_unlisted old new rows shown h
-      query.all_states_tests query.all_states_shown [] _ query.each_state_is refl refl refl (λ _. true) (λ x. refl) (λ x. refl) in
-      (found.0, found.1, in_any found.0 (all_pass (map state_pair it.states)) found.2.same)
+  pub entries_listed : Answers sql.ALL_ENTRIES.now entry_row in_any_order it.entries
+  entries_listed = whole 3 6 refl entry_row it.entries refl _ five [] in_any_order all_entries refl refl (λ x. refl) (λ x y. refl)
 
-  pub state_rows_listed : Shown query.all_states [] old new rows → (us : List StateRow) × (rows ≡ map state_row us) × AreInOrder by_state_row it.states us
-  state_rows_listed shown =
-      let found = lists 6 12 refl state_row state_row (stored it) it.states refl query.all_states [] query.all_states_plain query.all_states_unlisted old new rows
-      shown h query.all_states_tests query.all_states_shown query.all_states_order _ query.all_states_is refl refl refl (λ _. true) (λ x. refl) (λ x. refl) in
-      (found.0, found.1, ordered_as _ by_state_row _ it.states found.0 state_rows_order (all_pass it.states) found.2)
+  pub targets_listed : Answers sql.ALL_TARGETS.now target_row in_any_order it.targets
+  targets_listed = whole 4 8 refl target_row it.targets refl _ six [] in_any_order all_targets refl refl target_whole (λ x y. refl)
 
-  pub counts_listed : Shown query.all_counts [] old new rows → (us : List (Target × ℕ)) × (rows ≡ map kept_count us) × AreInOrder in_any_order (map count_pair it.counts) us
-  counts_listed shown =
-      let found = lists 7 14 refl kept_count kept_count (stored it) (map count_pair it.counts) (sym (map-map kept_count count_pair it.counts)) query.all_counts [] query.all_counts_plain query.all_counts_unlisted old new rows shown h
-      query.all_counts_tests query.all_counts_shown [] _ query.all_counts_is refl refl refl (λ _. true) (λ x. refl) count_whole in
-      (found.0, found.1, in_any found.0 (all_pass (map count_pair it.counts)) found.2.same)
+  pub state_rows_listed : Answers sql.ALL_STATES.now state_row in_any_order it.states
+  state_rows_listed = whole 6 12 refl state_row it.states refl _ three [] in_any_order all_states refl refl (λ x. refl) (λ x y. refl)
+
+  pub states_listed : Answers sql.ALL_STATES.now kept_state in_any_order (map state_pair it.states)
+  states_listed = whole 6 12 refl kept_state (map state_pair it.states) (sym (map-map kept_state state_pair it.states))
+      _ three [] in_any_order all_states refl refl
+      (λ x. refl) (λ x y. refl)
+
+  pub counts_listed : Answers sql.ALL_COUNTS.now kept_count in_any_order (map count_pair it.counts)
+  counts_listed = whole 7 14 refl kept_count (map count_pair it.counts) (sym (map-map kept_count count_pair it.counts))
+      _ four [] in_any_order all_counts refl refl
+      count_whole (λ x y. refl)
+
+  pub runs_listed : Answers sql.ALL_RUNS.now run_row by_key it.runs
+  runs_listed = whole 5 10 refl run_row it.runs refl _ six runs_order by_key all_runs refl refl (λ x. refl) runs_up
+
+  pub marks_listed : Answers sql.ALL_MARKS.now mark_row by_site it.settled
+  marks_listed = whole 8 16 refl mark_row it.settled refl _ two marks_order by_site all_marks refl refl (λ x. refl) marks_up
 
 -- ---- one look after another
 
@@ -201,17 +180,18 @@ looks_not F G a b s (Err e) p err = record {
   found = λ clean. tt;
 }
 
--- from a text that answered to what was made of its answer
-pub looked : {X Y : Type 0} (F : Rows → Y → Type 0) (a b : State) (x : X) (r : Result Y Error) → Steps {X = X} a b (Ok x) → WasOpen {X = X} a b (Ok x)
-    → LeavesTables {X = X} a b (Ok x) → (HasCleanDisk b → IfOk r (λ y. (it : Rows) → HoldsTables it a.now → F it y)) → Looks F a b r
-looked F a b x (Ok y) steps was_open same found = record {
-  steps = record { going = steps.going; kept = steps.kept; survives = steps.survives };
-  was_open = was_open;
-  same = same;
-  found = found;
+-- from a query that was answered to what was made of its answer
+pub looked : {X Y : Type 0} (F : Rows → Y → Type 0) (items : X → List Row) (sql : List ℕ) (params : Row) (a b : State) (x : X) (r : Result Y Error)
+    → IsPlain (understood library_schema sql) → IsAnswered items sql params a b (Ok x)
+    → ((it : Rows) → HoldsTables it a.now → Shown sql params a b (items x) → IfOk r (F it)) → Looks F a b r
+looked F items sql params a b x (Ok y) plain said means = record {
+  steps = record { going = said.steps.going; kept = said.steps.kept; survives = said.steps.survives };
+  was_open = said.was_open;
+  same = said.same plain;
+  found = λ clean it h. means it h (said.shown clean);
 }
-looked F a b x (Err e) steps was_open same found = record {
-  steps = record { going = λ clean. tt; kept = steps.kept; survives = steps.survives };
+looked F items sql params a b x (Err e) plain said means = record {
+  steps = record { going = λ clean. tt; kept = said.steps.kept; survives = said.steps.survives };
   was_open = λ clean. tt;
   same = λ clean. tt;
   found = λ clean. tt;

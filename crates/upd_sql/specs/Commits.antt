@@ -1,9 +1,13 @@
 -- What a whole transaction does to the tables of the last commit, and what its statements do that only read.
-use Rattle.std.specs.Prelude.{◌≡◌, ℕ, length, Result, IsTrue, IfOk, OnOk}
+use Rattle.std.specs.Prelude.{◌≡◌, ℕ, false, List, length, Result, IsTrue, IfOk, OnOk}
+use Rattle.std.specs.Borrow.{MutBor}
 use Rattle.std.specs.List.{AllZip}
 use Rattle.sqlite_trees.specs.Tree.{Trees}
 use Rattle.sqlite.specs.declared.error.Error.{Error}
-use Rattle.sqlite.specs.State.{State, HasCleanDisk, Survives}
+use Rattle.sqlite.specs.Given.{IsPlain}
+use Rattle.sqlite.specs.Listing.{understood}
+use Rattle.sqlite.specs.State.{State, HasCleanDisk, Shown, Survives}
+use Rattle.sqlite_value.specs.Order.{Row}
 use Rattle.upd_text.specs.declared.card_ref.CardRef.{CardRef}
 use Rattle.upd_records.specs.Changes.{status_rows}
 use Rattle.upd_records.specs.Rows.{Rows}
@@ -52,8 +56,21 @@ pub record Looks {X : Type 0} (Found : Rows → X → Type 0) (old new : State) 
   pub same : LeavesTables old new r
   pub found : HasCleanDisk new → IfOk r (λ x. (it : Rows) → HoldsTables it old.now → Found it x)
 
+-- A query was answered, on an open connection. A plain one leaves the tables of the transaction.
+pub record IsAnswered {X : Type 0} (items : X → List Row) (sql : List ℕ) (params : Row) (old new : State) (r : Result X Error) : Type 0 where
+  pub steps : Steps old new r
+  pub was_open : WasOpen old new r
+  pub same : IsPlain (understood library_schema sql) → LeavesTables old new r
+  pub shown : HasCleanDisk new → IfOk r (λ x. Shown sql params old new (items x))
+
+-- A step inside a transaction, which stays that of its connection.
+pub record Inside {C X : Type 0} (state : C → State) (Does : State → State → Result X Error → Type 0) (old new : MutBor C) (r : Result X Error) : Type 0 where
+  pub same_reference : new.ghost_name ≡ old.ghost_name
+  pub does : Does (state old.now) (state new.now) r
+
 -- What a transaction that only reads does: where the schema is the library's it leaves the last commit, and what it finds is so of the tables of that commit.
 pub record ReadsTables {X : Type 0} (Found : Rows → X → Type 0) (old new : State) (r : Result X Error) : Type 0 where
+  pub outside : new.in_transaction ≡ false
   pub was_open : HasCleanDisk new → IsTrue new.is_open → IsTrue old.is_open
   pub opens : HasCleanDisk new → OnOk r (IsTrue old.is_open × IsTrue new.is_open)
   pub kept : HasCleanDisk new → IsTrue new.is_open → old.committed.schema ≡ library_schema → new.committed ≡ old.committed

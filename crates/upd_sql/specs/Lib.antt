@@ -8,5 +8,4 @@ pub mod Part
 pub mod First
 pub mod Making
 pub mod Wanted
-pub mod Sizes
 pub mod Doable

@@ -60,6 +60,10 @@ pub record Transforms {X : Type 0} (Before After : Database → Type 0) (old new
   pub steps : Steps old new r
   pub transformed : HasCleanDisk new → OnOk r (IsTrue old.in_transaction → Before old.now → After new.now)
 
+-- a statement makes the next table, whichever that is
+abbrev pub MakesTable : {X : Type 0} → List ℕ → State → State → Result X Error → Type 0
+MakesTable sql old new r = (n : ℕ) → MakesNext n sql → Transforms (HasEmptyTables n) (HasEmptyTables (n + 1)) old new r
+
 -- what a crash may leave while the tables are made
 abbrev pub MayMake : State → Trees → Type 0
 MayMake old trees = IsTrue old.is_open × (old.committed.schema ≡ no_schema → ShowsIn trees no_rows)

@@ -4,30 +4,12 @@ ghost use Rattle.upd_records.specs.Rows.{MarkRow, RunView};
 ghost use Rattle.upd_sql.specs.Encoded.{mark_row, run_row};
 ghost use Rattle.upd_sql.specs.First.{first_mark, first_run};
 
-use crate::record::{column_of, flag_in};
+use crate::record::{Record, column_of};
 use sqlite::{Error, Row};
+use std::alloc::Global;
 use upd_records::RunRow;
 
-pub(crate) fn run_of(row: &Row) -> Result<RunRow, Error>
-    ensures found { IfOk result (λ run. (r : RunView) → row.now ≡ run_row r → run ≡ r) }
-{
-    let site = column_of(row, 0)?;
-    let number = column_of(row, 1)?;
-    let mode = column_of(row, 2)?;
-    let bytes = column_of(row, 3)?;
-    let accepted = flag_in(row, 4)?;
-    let reply = column_of(row, 5)?;
-    Ok(RunRow {
-        site,
-        number,
-        mode,
-        bytes,
-        accepted,
-        reply,
-    })
-}
-
-pub(crate) fn mark_of(row: &Row) -> Result<u64, Error>
+fn mark_of(row: &Row) -> Result<u64, Error>
     ensures found { IfOk result (λ mark. (m : MarkRow) → row.now ≡ mark_row m → mark ≡ m.mark) }
 {
     column_of(row, 1)
@@ -43,11 +25,11 @@ pub(crate) fn first_mark(rows: &[Row]) -> Result<u64, Error>
     }
 }
 
-pub(crate) fn first_run(rows: &[Row]) -> Result<Option<RunRow>, Error>
+pub(crate) fn first_run(alloc: Global, rows: &[Row]) -> Result<Option<RunRow>, Error>
     ensures found { IfOk result (λ run. (runs : List RunView) → rows.now ≡ map run_row runs → run ≡ first_run runs) }
 {
     match rows.first() {
-        Some(row) => Ok(Some(run_of(row)?)),
+        Some(row) => Ok(Some(RunRow::read(alloc, row)?)),
         None => Ok(None),
     }
 }

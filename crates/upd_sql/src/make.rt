@@ -1,9 +1,9 @@
 //! Making the tables of a new library.
-ghost use Rattle.std.specs.Prelude.{◌≡◌, ◌+◌, ℕ, false, IsTrue, OnErr, OnOk};
+ghost use Rattle.std.specs.Prelude.{◌≡◌, false, IsTrue, OnErr, OnOk};
 ghost use Rattle.sqlite.specs.Held.{state};
 ghost use Rattle.sqlite.specs.State.{HasCleanDisk, Survives};
-ghost use Rattle.upd_sql.specs.Commits.{WasOpen};
-ghost use Rattle.upd_sql.specs.Making.{no_rows, HasEmptyTables, Transforms, MakesNext, MayMake};
+ghost use Rattle.upd_sql.specs.Commits.{Inside, WasOpen};
+ghost use Rattle.upd_sql.specs.Making.{no_rows, HasEmptyTables, MakesTable, MayMake, Transforms};
 ghost use Rattle.upd_sql.specs.Schema.{no_schema};
 ghost use Rattle.upd_sql.specs.LibraryTables.{ShowsTables, HoldsTables};
 
@@ -13,18 +13,14 @@ use upd_sqlite::{Rising, begin, run};
 
 /// Makes the next table.
 fn create<S: Alter>(tx: &mut Transaction<'_, S>, sql: &str) -> Result<(), Error>
-    ensures same_reference { tx.new.conn.ghost_name ≡ tx.old.conn.ghost_name }
-    ensures transforms { (n : ℕ) → MakesNext n sql.now → Transforms (HasEmptyTables n) (HasEmptyTables (n + 1))
-        (state S.Store tx.old.conn.now) (state S.Store tx.new.conn.now) result }
+    ensures { Inside (state S.Store) (MakesTable sql.now) tx.old.conn tx.new.conn result }
 {
     run(tx, sql, &[])
 }
 
 /// Writes the version of the schema.
 fn insert_version<S: Alter>(tx: &mut Transaction<'_, S>) -> Result<(), Error>
-    ensures same_reference { tx.new.conn.ghost_name ≡ tx.old.conn.ghost_name }
-    ensures transforms { Transforms (HasEmptyTables 9) (HoldsTables no_rows) (state S.Store tx.old.conn.now)
-        (state S.Store tx.new.conn.now) result }
+    ensures transforms { Inside (state S.Store) (Transforms (HasEmptyTables 9) (HoldsTables no_rows)) tx.old.conn tx.new.conn result }
     ensures was_open { WasOpen (state S.Store tx.old.conn.now) (state S.Store tx.new.conn.now) result }
 {
     run(tx, texts::INSERT_VERSION, &[])
@@ -32,9 +28,7 @@ fn insert_version<S: Alter>(tx: &mut Transaction<'_, S>) -> Result<(), Error>
 
 /// Makes the tables of the version, the idents and the cards.
 fn create_cards<S: Alter>(tx: &mut Transaction<'_, S>) -> Result<(), Error>
-    ensures same_reference { tx.new.conn.ghost_name ≡ tx.old.conn.ghost_name }
-    ensures transforms { Transforms (HasEmptyTables 0) (HasEmptyTables 3) (state S.Store tx.old.conn.now)
-        (state S.Store tx.new.conn.now) result }
+    ensures { Inside (state S.Store) (Transforms (HasEmptyTables 0) (HasEmptyTables 3)) tx.old.conn tx.new.conn result }
 {
     create(tx, texts::CREATE_META)?;
     create(tx, texts::CREATE_IDENTS)?;
@@ -43,9 +37,7 @@ fn create_cards<S: Alter>(tx: &mut Transaction<'_, S>) -> Result<(), Error>
 
 /// Makes the tables of entries, targets and runs.
 fn create_runs<S: Alter>(tx: &mut Transaction<'_, S>) -> Result<(), Error>
-    ensures same_reference { tx.new.conn.ghost_name ≡ tx.old.conn.ghost_name }
-    ensures transforms { Transforms (HasEmptyTables 3) (HasEmptyTables 6) (state S.Store tx.old.conn.now)
-        (state S.Store tx.new.conn.now) result }
+    ensures { Inside (state S.Store) (Transforms (HasEmptyTables 3) (HasEmptyTables 6)) tx.old.conn tx.new.conn result }
 {
     create(tx, texts::CREATE_ENTRIES)?;
     create(tx, texts::CREATE_TARGETS)?;
@@ -54,9 +46,7 @@ fn create_runs<S: Alter>(tx: &mut Transaction<'_, S>) -> Result<(), Error>
 
 /// Makes the tables of statuses, counts and settled marks.
 fn create_marks<S: Alter>(tx: &mut Transaction<'_, S>) -> Result<(), Error>
-    ensures same_reference { tx.new.conn.ghost_name ≡ tx.old.conn.ghost_name }
-    ensures transforms { Transforms (HasEmptyTables 6) (HasEmptyTables 9) (state S.Store tx.old.conn.now)
-        (state S.Store tx.new.conn.now) result }
+    ensures { Inside (state S.Store) (Transforms (HasEmptyTables 6) (HasEmptyTables 9)) tx.old.conn tx.new.conn result }
 {
     create(tx, texts::CREATE_STATES)?;
     create(tx, texts::CREATE_COUNTS)?;
@@ -65,8 +55,7 @@ fn create_marks<S: Alter>(tx: &mut Transaction<'_, S>) -> Result<(), Error>
 
 /// Makes all tables, and writes the version.
 fn make_tables<S: Alter>(tx: &mut Transaction<'_, S>) -> Result<(), Error>
-    ensures same_reference { tx.new.conn.ghost_name ≡ tx.old.conn.ghost_name }
-    ensures transforms { Transforms (HasEmptyTables 0) (HoldsTables no_rows) (state S.Store tx.old.conn.now) (state S.Store tx.new.conn.now) result }
+    ensures transforms { Inside (state S.Store) (Transforms (HasEmptyTables 0) (HoldsTables no_rows)) tx.old.conn tx.new.conn result }
     ensures was_open { WasOpen (state S.Store tx.old.conn.now) (state S.Store tx.new.conn.now) result }
 {
     create_cards(tx)?;

@@ -8,7 +8,7 @@ use sqlite::types::{FromSql, ValueRef};
 use sqlite::{Error, ErrorCode, Row};
 use std::alloc::Global;
 use upd_core::{CardRef, Entry, Ident, Kind, Name, Serial, Target};
-use upd_records::{CardRow, EntryRow, StateRow, TargetRow};
+use upd_records::{CardRow, EntryRow, MarkRow, RunRow, StateRow, TargetRow};
 
 /// A record that is stored as a row.
 pub(crate) trait Record: Sized {
@@ -20,7 +20,7 @@ pub(crate) trait Record: Sized {
 }
 
 /// The error of a row that is not the row of a record.
-const ILLEGIBLE: Error = Error::SqliteFailure(ErrorCode::DatabaseCorrupt);
+pub const ILLEGIBLE: Error = Error::SqliteFailure(ErrorCode::DatabaseCorrupt);
 
 fn name_in(row: &Row, at: usize) -> Result<Name, Error>
     ensures ok { IfOk result (λ name. column row.now at ≡ Text name) }
@@ -53,7 +53,7 @@ fn card_in(row: &Row) -> Result<CardRef, Error>
 }
 
 /// A column of a row. Out of memory apart it fails only where the column isn't there, or can't be read.
-pub fn column_of<T: FromSql>(row: &Row, at: usize) -> Result<T, Error>
+pub(crate) fn column_of<T: FromSql>(row: &Row, at: usize) -> Result<T, Error>
     ensures ok { IfOk result (λ x. (at < length row.now) × T.FromSql.reads_as (column row.now at) x) }
 {
     row.get(at)
@@ -67,7 +67,7 @@ fn number_in(row: &Row, at: usize) -> Result<u32, Error>
 }
 
 /// A column that is 0 or 1.
-pub fn flag_in(row: &Row, at: usize) -> Result<bool, Error>
+fn flag_in(row: &Row, at: usize) -> Result<bool, Error>
     ensures ok { IfOk result (λ found. column row.now at ≡ flag found) }
 {
     match column_of::<u32>(row, at)? {
@@ -180,18 +180,6 @@ impl Record for TargetRow {
     }
 }
 
-/// A number.
-impl Record for u32 {
-    ghost use Rattle.std.specs.Prelude.{[], ◌∷◌};
-    ghost use Rattle.upd_sql.specs.Encoded.{num};
-
-    ghost stored = { λ n. num n ∷ [] };
-
-    fn read(_: Global, row: &Row) -> Result<u32, Error> {
-        number_in(row, 0)
-    }
-}
-
 impl Record for StateRow {
     ghost use Rattle.upd_sql.specs.Encoded.{state_row};
 
@@ -201,6 +189,41 @@ impl Record for StateRow {
         let card = card_in(row)?;
         let active = flag_in(row, 2)?;
         Ok(StateRow { card, active })
+    }
+}
+
+impl Record for RunRow {
+    ghost use Rattle.upd_sql.specs.Encoded.{run_row};
+
+    ghost stored = { run_row };
+
+    fn read(_: Global, row: &Row) -> Result<RunRow, Error> {
+        let site = column_of(row, 0)?;
+        let number = column_of(row, 1)?;
+        let mode = column_of(row, 2)?;
+        let bytes = column_of(row, 3)?;
+        let accepted = flag_in(row, 4)?;
+        let reply = column_of(row, 5)?;
+        Ok(RunRow {
+            site,
+            number,
+            mode,
+            bytes,
+            accepted,
+            reply,
+        })
+    }
+}
+
+impl Record for MarkRow {
+    ghost use Rattle.upd_sql.specs.Encoded.{mark_row};
+
+    ghost stored = { mark_row };
+
+    fn read(_: Global, row: &Row) -> Result<MarkRow, Error> {
+        let site = column_of(row, 0)?;
+        let mark = column_of(row, 1)?;
+        Ok(MarkRow { site, mark })
     }
 }
 

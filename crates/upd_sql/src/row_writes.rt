@@ -5,6 +5,7 @@ ghost use Rattle.upd_records.specs.Changes.{done, done_all, change_view, CardGon
 ghost use Rattle.upd_records.specs.Fits.{AllFit, Fits};
 ghost use Rattle.upd_row_store.specs.Movable.{MovesListed};
 ghost use Rattle.upd_sqlite.specs.Steps.{Makes};
+ghost use Rattle.upd_sql.specs.Commits.{Inside};
 ghost use Rattle.upd_sql.specs.Doable.{AllCanBeDone, CanBeDone};
 ghost use Rattle.upd_sql.specs.LibraryTables.{AnyTables, HoldsTables};
 ghost use Rattle.upd_sql.specs.RowEdits.{with_state, without_state};
@@ -16,9 +17,7 @@ use upd_core::{CardRef, Change, Name, Serial, Target};
 
 /// Removes the card and its status.
 fn remove_card<S: Alter>(tx: &mut Transaction<'_, S>, card: &CardRef) -> Result<(), Error>
-    ensures same_reference { tx.new.conn.ghost_name ≡ tx.old.conn.ghost_name }
-    ensures makes { Makes HoldsTables AnyTables (done (CardGone card.now)) (state S.Store tx.old.conn.now)
-        (state S.Store tx.new.conn.now) result }
+    ensures { Inside (state S.Store) (Makes HoldsTables AnyTables (done (CardGone card.now))) tx.old.conn tx.new.conn result }
 {
     writes::delete_card(tx, card)?;
     writes::delete_state(tx, card)
@@ -30,9 +29,8 @@ fn replace_state<S: Alter>(
     card: &CardRef,
     active: bool,
 ) -> Result<(), Error>
-    ensures same_reference { tx.new.conn.ghost_name ≡ tx.old.conn.ghost_name }
-    ensures makes { Makes HoldsTables AnyTables (λ it. with_state card.now active (without_state card.now it))
-        (state S.Store tx.old.conn.now) (state S.Store tx.new.conn.now) result }
+    ensures { Inside (state S.Store) (Makes HoldsTables AnyTables (λ it. with_state card.now active (without_state card.now it)))
+        tx.old.conn tx.new.conn result }
 {
     writes::delete_state(tx, card)?;
     writes::insert_state(tx, card, active)
@@ -44,9 +42,7 @@ fn set_state<S: Alter>(
     card: &CardRef,
     active: bool,
 ) -> Result<(), Error>
-    ensures same_reference { tx.new.conn.ghost_name ≡ tx.old.conn.ghost_name }
-    ensures makes { Makes HoldsTables AnyTables (done (StatusNow card.now active)) (state S.Store tx.old.conn.now)
-        (state S.Store tx.new.conn.now) result }
+    ensures { Inside (state S.Store) (Makes HoldsTables AnyTables (done (StatusNow card.now active))) tx.old.conn tx.new.conn result }
 {
     let rows = writes::update_state(tx, card, active)?;
     if rows == 1 {
@@ -60,9 +56,7 @@ fn set_state<S: Alter>(
 
 /// Sets the target's count; 0 leaves no row.
 fn set_count<S: Alter>(tx: &mut Transaction<'_, S>, target: Target, n: u32) -> Result<(), Error>
-    ensures same_reference { tx.new.conn.ghost_name ≡ tx.old.conn.ghost_name }
-    ensures makes { Makes HoldsTables AnyTables (done (CountNow target n)) (state S.Store tx.old.conn.now)
-        (state S.Store tx.new.conn.now) result }
+    ensures { Inside (state S.Store) (Makes HoldsTables AnyTables (done (CountNow target n))) tx.old.conn tx.new.conn result }
 {
     writes::delete_count(tx, target)?;
     if n == 0 {
@@ -80,10 +74,8 @@ fn move_listed<S: Alter>(
     from: u32,
     by: u64,
 ) -> Result<(), Error>
-    ensures same_reference { tx.new.conn.ghost_name ≡ tx.old.conn.ghost_name }
-    ensures makes { Makes HoldsTables (λ it. Fits (CardsMoved deck from (pos by)) it
-        × MovesListed movable.now (CardsMoved deck from (pos by)) it) (done (CardsMoved deck from (pos by)))
-        (state S.Store tx.old.conn.now) (state S.Store tx.new.conn.now) result }
+    ensures { Inside (state S.Store) (Makes HoldsTables (λ it. Fits (CardsMoved deck from (pos by)) it × MovesListed movable.now (CardsMoved deck from (pos by)) it)
+        (done (CardsMoved deck from (pos by)))) tx.old.conn tx.new.conn result }
 {
     for (ident, least) in movable {
         writes::move_back_of(tx, ident, *least, deck, from, by)?;
@@ -98,9 +90,8 @@ fn move_cards<S: Alter>(
     from: u32,
     by: i64,
 ) -> Result<(), Error>
-    ensures same_reference { tx.new.conn.ghost_name ≡ tx.old.conn.ghost_name }
-    ensures makes { Makes HoldsTables (Fits (CardsMoved deck from by)) (done (CardsMoved deck from by))
-        (state S.Store tx.old.conn.now) (state S.Store tx.new.conn.now) result }
+    ensures { Inside (state S.Store) (Makes HoldsTables (Fits (CardsMoved deck from by)) (done (CardsMoved deck from by)))
+        tx.old.conn tx.new.conn result }
 {
     if by < 0 {
         writes::move_up(tx, deck, from, by.unsigned_abs())
@@ -111,9 +102,8 @@ fn move_cards<S: Alter>(
 
 /// Carries out one change.
 fn carry_out<S: Alter>(tx: &mut Transaction<'_, S>, change: &Change) -> Result<(), Error>
-    ensures same_reference { tx.new.conn.ghost_name ≡ tx.old.conn.ghost_name }
-    ensures makes { Makes HoldsTables (Fits (change_view change.now)) (done (change_view change.now))
-        (state S.Store tx.old.conn.now) (state S.Store tx.new.conn.now) result }
+    ensures { Inside (state S.Store) (Makes HoldsTables (Fits (change_view change.now)) (done (change_view change.now)))
+        tx.old.conn tx.new.conn result }
 {
     match change {
         Change::IdentNew(ident) => writes::insert_ident(tx, ident),
@@ -141,9 +131,8 @@ fn carry_out_listed<S: Alter>(
     movable: Option<&BTreeMap<Name, u32>>,
     change: &Change,
 ) -> Result<(), Error>
-    ensures same_reference { tx.new.conn.ghost_name ≡ tx.old.conn.ghost_name }
-    ensures makes { Makes HoldsTables (CanBeDone (option_copied movable.entry) (change_view change.now))
-        (done (change_view change.now)) (state S.Store tx.old.conn.now) (state S.Store tx.new.conn.now) result }
+    ensures { Inside (state S.Store) (Makes HoldsTables (CanBeDone (option_copied movable.entry) (change_view change.now))
+        (done (change_view change.now))) tx.old.conn tx.new.conn result }
 {
     match (movable, change) {
         (Some(movable), Change::CardsMoved { deck, from, by }) if *by >= 0 => {
@@ -159,10 +148,8 @@ pub(crate) fn carry_out_moving<S: Alter>(
     movable: Option<&BTreeMap<Name, u32>>,
     changes: &[Change],
 ) -> Result<(), Error>
-    ensures same_reference { tx.new.conn.ghost_name ≡ tx.old.conn.ghost_name }
-    ensures makes { Makes HoldsTables (AllCanBeDone (option_copied movable.entry) (map change_view changes.now))
-        (done_all (map change_view changes.now))
-        (state S.Store tx.old.conn.now) (state S.Store tx.new.conn.now) result }
+    ensures { Inside (state S.Store) (Makes HoldsTables (AllCanBeDone (option_copied movable.entry) (map change_view changes.now))
+        (done_all (map change_view changes.now))) tx.old.conn tx.new.conn result }
 {
     for change in changes {
         carry_out_listed(tx, movable, change)?;
@@ -172,9 +159,8 @@ pub(crate) fn carry_out_moving<S: Alter>(
 
 /// Carries out changes in order, inside a transaction.
 pub fn carry_out_all<S: Alter>(tx: &mut Transaction<'_, S>, changes: &[Change]) -> Result<(), Error>
-    ensures same_reference { tx.new.conn.ghost_name ≡ tx.old.conn.ghost_name }
-    ensures makes { Makes HoldsTables (AllFit (map change_view changes.now)) (done_all (map change_view changes.now))
-        (state S.Store tx.old.conn.now) (state S.Store tx.new.conn.now) result }
+    ensures { Inside (state S.Store) (Makes HoldsTables (AllFit (map change_view changes.now)) (done_all (map change_view changes.now)))
+        tx.old.conn tx.new.conn result }
 {
     carry_out_moving(tx, None, changes)
 }

@@ -5,7 +5,7 @@ ghost use Rattle.sqlite.specs.State.{HasCleanDisk, Survives};
 ghost use Rattle.upd_records.specs.Rows.{Rows};
 ghost use Rattle.upd_row_store.specs.Tables.{mark_at, settled_to};
 ghost use Rattle.upd_sqlite.specs.Steps.{Makes};
-ghost use Rattle.upd_sql.specs.Commits.{Commits, MayCommit, WasOpen};
+ghost use Rattle.upd_sql.specs.Commits.{Commits, Inside, MayCommit, WasOpen};
 ghost use Rattle.upd_sql.specs.RowEdits.{with_runs_settled};
 ghost use Rattle.upd_sql.specs.LibraryTables.{AnyTables, ShowsTables, HoldsTables};
 
@@ -16,9 +16,7 @@ use upd_sqlite::{Rising, begin};
 
 /// Removes the site's runs up to a number, and makes the number its mark.
 fn set_mark<S: Alter>(tx: &mut Transaction<'_, S>, site: &str, number: u64) -> Result<(), Error>
-    ensures same_reference { tx.new.conn.ghost_name ≡ tx.old.conn.ghost_name }
-    ensures makes { Makes HoldsTables AnyTables (with_runs_settled site.now number) (state S.Store tx.old.conn.now)
-        (state S.Store tx.new.conn.now) result }
+    ensures { Inside (state S.Store) (Makes HoldsTables AnyTables (with_runs_settled site.now number)) tx.old.conn tx.new.conn result }
 {
     writes::delete_runs(tx, site, number)?;
     writes::delete_mark(tx, site)?;
@@ -27,9 +25,7 @@ fn set_mark<S: Alter>(tx: &mut Transaction<'_, S>, site: &str, number: u64) -> R
 
 /// Settles a site's runs up to a number, and returns the site's mark afterwards.
 fn settle_in<S: Alter>(tx: &mut Transaction<'_, S>, site: &str, number: u64) -> Result<u64, Error>
-    ensures same_reference { tx.new.conn.ghost_name ≡ tx.old.conn.ghost_name }
-    ensures makes { Makes HoldsTables AnyTables (settled_to site.now number) (state S.Store tx.old.conn.now)
-        (state S.Store tx.new.conn.now) result }
+    ensures makes { Inside (state S.Store) (Makes HoldsTables AnyTables (settled_to site.now number)) tx.old.conn tx.new.conn result }
     ensures was_open { WasOpen (state S.Store tx.old.conn.now) (state S.Store tx.new.conn.now) result }
     ensures mark { HasCleanDisk (state S.Store tx.new.conn.now)
         → IfOk result (λ mark. (it : Rows) → HoldsTables it (state S.Store tx.old.conn.now).now → mark

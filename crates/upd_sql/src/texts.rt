@@ -92,39 +92,25 @@ pub(crate) const MOVE_BACK_OF: &str =
 pub(crate) const MOVE_UP: &str = "UPDATE cards SET pos = pos - ?3 WHERE deck = ?1 AND pos >= ?2";
 
 // Rows read.
-pub(crate) const ALL_IDENTS: &str = "SELECT age, name, kind, noprop, held FROM idents ORDER BY age";
+pub(crate) const ALL_IDENTS: &str = "SELECT age, name, kind, noprop, held FROM idents";
 
-pub(crate) const ALL_CARDS: &str =
-    "SELECT ident, num, deck, pos, body FROM cards ORDER BY deck, pos";
+pub(crate) const ALL_CARDS: &str = "SELECT ident, num, deck, pos, body FROM cards";
 
-pub(crate) const ALL_ENTRIES: &str =
-    "SELECT ident, num, ord, who, active FROM entries ORDER BY ident, num, ord";
+pub(crate) const ALL_ENTRIES: &str = "SELECT ident, num, ord, who, active FROM entries";
 
-pub(crate) const ALL_TARGETS: &str =
-    "SELECT ident, num, ord, kind, target, deck FROM targets ORDER BY ident, num, ord";
+pub(crate) const ALL_TARGETS: &str = "SELECT ident, num, ord, kind, target, deck FROM targets";
 
-pub(crate) const ALL_STATES: &str = "SELECT ident, num, active FROM states ORDER BY ident, num";
-
-pub(crate) const EACH_STATE: &str = "SELECT ident, num, active FROM states";
+pub(crate) const ALL_STATES: &str = "SELECT ident, num, active FROM states";
 
 pub(crate) const ALL_COUNTS: &str = "SELECT kind, target, deck, n FROM counts";
+
+pub(crate) const ALL_RUNS: &str =
+    "SELECT site, num, mode, body, accepted, reply FROM runs ORDER BY site, num";
+
+pub(crate) const ALL_MARKS: &str = "SELECT site, mark FROM settled ORDER BY site";
 
 pub(crate) const RUN_OF_KEY: &str =
     "SELECT site, num, mode, body, accepted, reply FROM runs WHERE site = ?1 AND num = ?2 ORDER BY rowid";
 
 pub(crate) const MARK_OF_SITE: &str =
     "SELECT site, mark FROM settled WHERE site = ?1 ORDER BY rowid";
-
-pub(crate) const DECK_OF_CARD: &str = "SELECT deck FROM cards WHERE ident = ?1 AND num = ?2";
-
-pub(crate) const CARDS_OF_DECK: &str =
-    "SELECT ident, num, deck, pos, body FROM cards WHERE deck = 0 OR deck = ?1 ORDER BY deck, pos";
-
-pub(crate) const ENTRIES_OF_IDENT: &str =
-    "SELECT ident, num, ord, who, active FROM entries WHERE ident = ?1";
-
-pub(crate) const STATES_OF_IDENT: &str = "SELECT ident, num, active FROM states WHERE ident = ?1";
-
-pub(crate) const COUNT_CARDS: &str = "SELECT count(*) FROM cards";
-
-pub(crate) const COUNT_ENTRIES: &str = "SELECT count(*) FROM entries";

@@ -8,7 +8,7 @@ ghost use Rattle.upd_row_store.specs.Tables.{with_run};
 ghost use Rattle.upd_sqlite.specs.Steps.{Makes};
 ghost use Rattle.upd_sql.specs.RowEdits.{CanMoveOf, with_count, with_mark, with_moved, with_restated, with_state, without_card};
 ghost use Rattle.upd_sql.specs.RowEdits.{without_count, without_mark, without_runs, without_state};
-ghost use Rattle.upd_sql.specs.Commits.{CountsStatuses, WasOpen};
+ghost use Rattle.upd_sql.specs.Commits.{CountsStatuses, Inside, WasOpen};
 ghost use Rattle.upd_sql.specs.LibraryTables.{AnyTables, HoldsTables};
 
 use crate::texts;
@@ -22,9 +22,7 @@ pub(crate) fn insert_ident<S: Alter>(
     tx: &mut Transaction<'_, S>,
     ident: &Ident,
 ) -> Result<(), Error>
-    ensures same_reference { tx.new.conn.ghost_name ≡ tx.old.conn.ghost_name }
-    ensures makes { Makes HoldsTables AnyTables (done (IdentNew ident.now)) (state S.Store tx.old.conn.now)
-        (state S.Store tx.new.conn.now) result }
+    ensures { Inside (state S.Store) (Makes HoldsTables AnyTables (done (IdentNew ident.now))) tx.old.conn tx.new.conn result }
 {
     run(
         tx,
@@ -40,9 +38,7 @@ pub(crate) fn insert_ident<S: Alter>(
 }
 
 pub(crate) fn purge_ident<S: Alter>(tx: &mut Transaction<'_, S>, age: Serial) -> Result<(), Error>
-    ensures same_reference { tx.new.conn.ghost_name ≡ tx.old.conn.ghost_name }
-    ensures makes { Makes HoldsTables AnyTables (done (IdentPurged age)) (state S.Store tx.old.conn.now)
-        (state S.Store tx.new.conn.now) result }
+    ensures { Inside (state S.Store) (Makes HoldsTables AnyTables (done (IdentPurged age))) tx.old.conn tx.new.conn result }
 {
     run(tx, texts::PURGE_IDENT, &[number(age)])
 }
@@ -54,9 +50,8 @@ pub(crate) fn insert_card<S: Alter>(
     pos: u32,
     body: &[u8],
 ) -> Result<(), Error>
-    ensures same_reference { tx.new.conn.ghost_name ≡ tx.old.conn.ghost_name }
-    ensures makes { Makes HoldsTables AnyTables (done (CardNew card.now deck pos body.now))
-        (state S.Store tx.old.conn.now) (state S.Store tx.new.conn.now) result }
+    ensures { Inside (state S.Store) (Makes HoldsTables AnyTables (done (CardNew card.now deck pos body.now)))
+        tx.old.conn tx.new.conn result }
 {
     run(
         tx,
@@ -76,9 +71,7 @@ pub(crate) fn delete_card<S: Alter>(
     tx: &mut Transaction<'_, S>,
     card: &CardRef,
 ) -> Result<(), Error>
-    ensures same_reference { tx.new.conn.ghost_name ≡ tx.old.conn.ghost_name }
-    ensures makes { Makes HoldsTables AnyTables (without_card card.now) (state S.Store tx.old.conn.now)
-        (state S.Store tx.new.conn.now) result }
+    ensures { Inside (state S.Store) (Makes HoldsTables AnyTables (without_card card.now)) tx.old.conn tx.new.conn result }
 {
     run(
         tx,
@@ -93,9 +86,7 @@ pub(crate) fn insert_entry<S: Alter>(
     ord: u32,
     entry: &Entry,
 ) -> Result<(), Error>
-    ensures same_reference { tx.new.conn.ghost_name ≡ tx.old.conn.ghost_name }
-    ensures makes { Makes HoldsTables AnyTables (done (EntryNew card.now ord entry.now)) (state S.Store tx.old.conn.now)
-        (state S.Store tx.new.conn.now) result }
+    ensures { Inside (state S.Store) (Makes HoldsTables AnyTables (done (EntryNew card.now ord entry.now))) tx.old.conn tx.new.conn result }
 {
     run(
         tx,
@@ -114,9 +105,7 @@ pub(crate) fn delete_entries<S: Alter>(
     tx: &mut Transaction<'_, S>,
     card: &CardRef,
 ) -> Result<(), Error>
-    ensures same_reference { tx.new.conn.ghost_name ≡ tx.old.conn.ghost_name }
-    ensures makes { Makes HoldsTables AnyTables (done (EntriesGone card.now)) (state S.Store tx.old.conn.now)
-        (state S.Store tx.new.conn.now) result }
+    ensures { Inside (state S.Store) (Makes HoldsTables AnyTables (done (EntriesGone card.now))) tx.old.conn tx.new.conn result }
 {
     run(
         tx,
@@ -131,9 +120,7 @@ pub(crate) fn insert_target<S: Alter>(
     ord: u32,
     target: Target,
 ) -> Result<(), Error>
-    ensures same_reference { tx.new.conn.ghost_name ≡ tx.old.conn.ghost_name }
-    ensures makes { Makes HoldsTables AnyTables (done (TargetNew card.now ord target)) (state S.Store tx.old.conn.now)
-        (state S.Store tx.new.conn.now) result }
+    ensures { Inside (state S.Store) (Makes HoldsTables AnyTables (done (TargetNew card.now ord target))) tx.old.conn tx.new.conn result }
 {
     let codes = codes_of(target);
     run(
@@ -154,9 +141,7 @@ pub(crate) fn delete_targets<S: Alter>(
     tx: &mut Transaction<'_, S>,
     card: &CardRef,
 ) -> Result<(), Error>
-    ensures same_reference { tx.new.conn.ghost_name ≡ tx.old.conn.ghost_name }
-    ensures makes { Makes HoldsTables AnyTables (done (TargetsGone card.now [])) (state S.Store tx.old.conn.now)
-        (state S.Store tx.new.conn.now) result }
+    ensures { Inside (state S.Store) (Makes HoldsTables AnyTables (done (TargetsGone card.now []))) tx.old.conn tx.new.conn result }
 {
     run(
         tx,
@@ -166,9 +151,7 @@ pub(crate) fn delete_targets<S: Alter>(
 }
 
 pub(crate) fn insert_run<S: Alter>(tx: &mut Transaction<'_, S>, row: &RunRow) -> Result<(), Error>
-    ensures same_reference { tx.new.conn.ghost_name ≡ tx.old.conn.ghost_name }
-    ensures makes { Makes HoldsTables AnyTables (with_run row.now) (state S.Store tx.old.conn.now)
-        (state S.Store tx.new.conn.now) result }
+    ensures makes { Inside (state S.Store) (Makes HoldsTables AnyTables (with_run row.now)) tx.old.conn tx.new.conn result }
     ensures was_open { WasOpen (state S.Store tx.old.conn.now) (state S.Store tx.new.conn.now) result }
 {
     let run_number = wide(row.number)?;
@@ -191,9 +174,7 @@ pub(crate) fn insert_state<S: Alter>(
     card: &CardRef,
     active: bool,
 ) -> Result<(), Error>
-    ensures same_reference { tx.new.conn.ghost_name ≡ tx.old.conn.ghost_name }
-    ensures makes { Makes HoldsTables AnyTables (with_state card.now active) (state S.Store tx.old.conn.now)
-        (state S.Store tx.new.conn.now) result }
+    ensures { Inside (state S.Store) (Makes HoldsTables AnyTables (with_state card.now active)) tx.old.conn tx.new.conn result }
 {
     run(
         tx,
@@ -206,9 +187,7 @@ pub(crate) fn delete_state<S: Alter>(
     tx: &mut Transaction<'_, S>,
     card: &CardRef,
 ) -> Result<(), Error>
-    ensures same_reference { tx.new.conn.ghost_name ≡ tx.old.conn.ghost_name }
-    ensures makes { Makes HoldsTables AnyTables (without_state card.now) (state S.Store tx.old.conn.now)
-        (state S.Store tx.new.conn.now) result }
+    ensures { Inside (state S.Store) (Makes HoldsTables AnyTables (without_state card.now)) tx.old.conn tx.new.conn result }
 {
     run(
         tx,
@@ -223,9 +202,7 @@ pub(crate) fn update_state<S: Alter>(
     card: &CardRef,
     active: bool,
 ) -> Result<usize, Error>
-    ensures same_reference { tx.new.conn.ghost_name ≡ tx.old.conn.ghost_name }
-    ensures makes { Makes HoldsTables AnyTables (with_restated card.now active) (state S.Store tx.old.conn.now)
-        (state S.Store tx.new.conn.now) result }
+    ensures makes { Inside (state S.Store) (Makes HoldsTables AnyTables (with_restated card.now active)) tx.old.conn tx.new.conn result }
     ensures counted { CountsStatuses card.now (state S.Store tx.old.conn.now) (state S.Store tx.new.conn.now) result }
 {
     run_counted(
@@ -240,9 +217,7 @@ pub(crate) fn insert_count<S: Alter>(
     target: Target,
     n: u32,
 ) -> Result<(), Error>
-    ensures same_reference { tx.new.conn.ghost_name ≡ tx.old.conn.ghost_name }
-    ensures makes { Makes HoldsTables AnyTables (with_count target n) (state S.Store tx.old.conn.now)
-        (state S.Store tx.new.conn.now) result }
+    ensures { Inside (state S.Store) (Makes HoldsTables AnyTables (with_count target n)) tx.old.conn tx.new.conn result }
 {
     let codes = codes_of(target);
     run(
@@ -261,9 +236,7 @@ pub(crate) fn delete_count<S: Alter>(
     tx: &mut Transaction<'_, S>,
     target: Target,
 ) -> Result<(), Error>
-    ensures same_reference { tx.new.conn.ghost_name ≡ tx.old.conn.ghost_name }
-    ensures makes { Makes HoldsTables AnyTables (without_count target) (state S.Store tx.old.conn.now)
-        (state S.Store tx.new.conn.now) result }
+    ensures { Inside (state S.Store) (Makes HoldsTables AnyTables (without_count target)) tx.old.conn tx.new.conn result }
 {
     let codes = codes_of(target);
     run(
@@ -278,9 +251,7 @@ pub(crate) fn insert_mark<S: Alter>(
     site: &str,
     mark: u64,
 ) -> Result<(), Error>
-    ensures same_reference { tx.new.conn.ghost_name ≡ tx.old.conn.ghost_name }
-    ensures makes { Makes HoldsTables AnyTables (with_mark site.now mark) (state S.Store tx.old.conn.now)
-        (state S.Store tx.new.conn.now) result }
+    ensures makes { Inside (state S.Store) (Makes HoldsTables AnyTables (with_mark site.now mark)) tx.old.conn tx.new.conn result }
     ensures was_open { WasOpen (state S.Store tx.old.conn.now) (state S.Store tx.new.conn.now) result }
 {
     let mark_value = wide(mark)?;
@@ -288,9 +259,7 @@ pub(crate) fn insert_mark<S: Alter>(
 }
 
 pub(crate) fn delete_mark<S: Alter>(tx: &mut Transaction<'_, S>, site: &str) -> Result<(), Error>
-    ensures same_reference { tx.new.conn.ghost_name ≡ tx.old.conn.ghost_name }
-    ensures makes { Makes HoldsTables AnyTables (without_mark site.now) (state S.Store tx.old.conn.now)
-        (state S.Store tx.new.conn.now) result }
+    ensures { Inside (state S.Store) (Makes HoldsTables AnyTables (without_mark site.now)) tx.old.conn tx.new.conn result }
 {
     run(tx, texts::DELETE_MARK, &[values::site(site)])
 }
@@ -300,9 +269,7 @@ pub(crate) fn delete_runs<S: Alter>(
     site: &str,
     number: u64,
 ) -> Result<(), Error>
-    ensures same_reference { tx.new.conn.ghost_name ≡ tx.old.conn.ghost_name }
-    ensures makes { Makes HoldsTables AnyTables (without_runs site.now number) (state S.Store tx.old.conn.now)
-        (state S.Store tx.new.conn.now) result }
+    ensures { Inside (state S.Store) (Makes HoldsTables AnyTables (without_runs site.now number)) tx.old.conn tx.new.conn result }
 {
     let up_to = wide(number)?;
     run(tx, texts::DELETE_RUNS, &[values::site(site), up_to])
@@ -315,9 +282,8 @@ pub(crate) fn move_back<S: Alter>(
     from: u32,
     by: u64,
 ) -> Result<(), Error>
-    ensures same_reference { tx.new.conn.ghost_name ≡ tx.old.conn.ghost_name }
-    ensures makes { Makes HoldsTables (Fits (CardsMoved deck from (pos by))) (done (CardsMoved deck from (pos by)))
-        (state S.Store tx.old.conn.now) (state S.Store tx.new.conn.now) result }
+    ensures { Inside (state S.Store) (Makes HoldsTables (Fits (CardsMoved deck from (pos by))) (done (CardsMoved deck from (pos by))))
+        tx.old.conn tx.new.conn result }
 {
     let distance = wide(by)?;
     run(
@@ -336,10 +302,7 @@ pub(crate) fn move_back_of<S: Alter>(
     from: u32,
     by: u64,
 ) -> Result<(), Error>
-    ensures same_reference { tx.new.conn.ghost_name ≡ tx.old.conn.ghost_name }
-    ensures makes { Makes HoldsTables (CanMoveOf (ident.now, least) deck from by)
-        (with_moved (ident.now, least) deck from by) (state S.Store tx.old.conn.now)
-        (state S.Store tx.new.conn.now) result }
+    ensures { Inside (state S.Store) (Makes HoldsTables (CanMoveOf (ident.now, least) deck from by) (with_moved (ident.now, least) deck from by)) tx.old.conn tx.new.conn result }
 {
     let distance = wide(by)?;
     run(
@@ -363,10 +326,8 @@ pub(crate) fn move_up<S: Alter>(
     by: u64,
 ) -> Result<(), Error>
     requires { 0 < by }
-    ensures same_reference { tx.new.conn.ghost_name ≡ tx.old.conn.ghost_name }
-    ensures makes { Makes HoldsTables (Fits (CardsMoved deck from (negsuc (by - 1))))
-        (done (CardsMoved deck from (negsuc (by - 1)))) (state S.Store tx.old.conn.now)
-        (state S.Store tx.new.conn.now) result }
+    ensures { Inside (state S.Store) (Makes HoldsTables (Fits (CardsMoved deck from (negsuc (by - 1))))
+        (done (CardsMoved deck from (negsuc (by - 1))))) tx.old.conn tx.new.conn result }
 {
     let distance = wide(by)?;
     run(tx, texts::MOVE_UP, &[number(deck), number(from), distance])

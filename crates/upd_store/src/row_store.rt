@@ -12,12 +12,12 @@ use std::collections::BTreeMap;
 use upd_core::{Actives, CardRef, Change, Library, Name, Serial, States};
 use upd_records::{LibraryRows, RunRow};
 use upd_row_store::{
-    Homes, Meaning, RowStore, assembled, assembled_active, assembled_with_rest, decks_by_age,
-    homes_by_age, reads_with,
+    Meaning, RowStore, ages_of_decks, assembled, assembled_active, assembled_part, decks_by_age,
+    reads_with,
 };
 use upd_sql::{
-    commit_changes, is_library_schema, settle_site, stored_active, stored_decks_of,
-    stored_library_rows, stored_mark, stored_part, stored_run, stored_states, stored_states_of,
+    commit_changes, is_library_schema, settle_site, stored_active, stored_library_rows,
+    stored_mark, stored_run, stored_states,
 };
 use upd_sqlite::{Rising, committed_schema};
 use upd_text::Fault;
@@ -85,13 +85,8 @@ impl<S: Rising> RowStore for SqlStore<S> {
         if !is_ours(&self.conn) {
             return Err(refused(&mut self.failures));
         }
-        match stored_part(&mut self.conn, alloc, decks) {
-            Ok(part) => match assembled_with_rest(
-                alloc,
-                part.rows,
-                part.sizes.cards,
-                part.sizes.entries,
-            ) {
+        match stored_library_rows(&mut self.conn, alloc) {
+            Ok(rows) => match assembled_part(alloc, rows, decks) {
                 Ok(library) => {
                     self.decks_read = reads_with(self.decks_read, &library);
                     Ok(library)
@@ -106,18 +101,11 @@ impl<S: Rising> RowStore for SqlStore<S> {
         if !is_ours(&self.conn) {
             return Err(refused(&mut self.failures));
         }
-        match stored_decks_of(&mut self.conn, alloc, cards) {
-            Ok(ages) => Ok(decks_by_age(ages)),
-            Err(error) => Err(counted(error, &mut self.failures)),
-        }
-    }
-
-    fn homes_of(&mut self, alloc: Global, cards: &[CardRef]) -> Result<Homes, Fault> {
-        if !is_ours(&self.conn) {
-            return Err(refused(&mut self.failures));
-        }
-        match stored_decks_of(&mut self.conn, alloc, cards) {
-            Ok(ages) => Ok(homes_by_age(ages)),
+        match stored_library_rows(&mut self.conn, alloc) {
+            Ok(rows) => match ages_of_decks(alloc, &rows.cards, cards) {
+                Ok(ages) => Ok(decks_by_age(ages)),
+                Err(_) => Err(no_memory()),
+            },
             Err(error) => Err(counted(error, &mut self.failures)),
         }
     }
@@ -142,16 +130,6 @@ impl<S: Rising> RowStore for SqlStore<S> {
         }
     }
 
-    fn states_of(&mut self, alloc: Global, cards: &[CardRef]) -> Result<States, Fault> {
-        if !is_ours(&self.conn) {
-            return Err(refused(&mut self.failures));
-        }
-        match stored_states_of(&mut self.conn, alloc, cards) {
-            Ok(states) => Ok(states),
-            Err(error) => Err(counted(error, &mut self.failures)),
-        }
-    }
-
     fn load_active(&mut self, alloc: Global) -> Result<Actives, Fault> {
         if !is_ours(&self.conn) {
             return Err(refused(&mut self.failures));
@@ -165,11 +143,16 @@ impl<S: Rising> RowStore for SqlStore<S> {
         }
     }
 
-    fn kept_run(&mut self, _: Global, site: &str, number: u64) -> Result<Option<RunRow>, Fault> {
+    fn kept_run(
+        &mut self,
+        alloc: Global,
+        site: &str,
+        number: u64,
+    ) -> Result<Option<RunRow>, Fault> {
         if !is_ours(&self.conn) {
             return Err(refused(&mut self.failures));
         }
-        match stored_run(&mut self.conn, site, number) {
+        match stored_run(&mut self.conn, alloc, site, number) {
             Ok(run) => Ok(run),
             Err(error) => Err(counted(error, &mut self.failures)),
         }

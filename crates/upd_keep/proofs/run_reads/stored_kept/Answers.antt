@@ -14,4 +14,4 @@ returns-clause-found g c clean =
     let begun = c.begin-tx.ensures.begun in
     let same : c.rollback.new.self.0 ≡ c.conn-2-1.given.0 = search rules in
     let early = clean_before last end _ c.rollback.ensures.survives (subst (λ h. HasCleanDisk (state g.S.Store h)) (sym same) clean) in
-    found_outside AreKept old last c.in_ok-kept.kept early c.begin-tx.ensures.rise c.begin-tx.ensures.settled (rw begun at c.in_ok-kept.ensures.looks)
+    found_outside AreKept old last c.in_ok-kept.kept early c.begin-tx.ensures.rise c.begin-tx.ensures.settled (rw begun at c.in_ok-kept.ensures.does)

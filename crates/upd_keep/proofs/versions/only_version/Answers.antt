@@ -10,4 +10,5 @@ returns-clause-one g c clean =
     let last = state g.S.Store c.only_version_in.new.tx.conn.now in
     let begun = c.begin-tx.ensures.begun in
     let early : HasCleanDisk last = search rules in
-    one_outside {X = Unit {0}} old last tt early c.begin-tx.ensures.settled (rw begun at c.in_ok-only_version_in.ensures.was_open) (rw begun at c.in_ok-only_version_in.ensures.one)
+    one_outside {X = Unit {0}} old last tt early c.begin-tx.ensures.settled (rw begun at c.in_ok-only_version_in.ensures.does.was_open)
+    (rw begun at c.in_ok-only_version_in.ensures.does.one)

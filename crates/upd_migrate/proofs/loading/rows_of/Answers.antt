@@ -15,4 +15,4 @@ returns-clause-found g c clean it shown =
     let same : c.rollback.new.self.0 ≡ c.conn-2-1.given.0 = search rules in
     let early = clean_before last end _ c.rollback.ensures.survives (subst (λ h. HasCleanDisk (state g.S.Store h)) (sym same) clean) in
     read_rows c.args.version it old mid last c.in_ok-complete.field-0 c.in_ok-found.found c.begin-tx.ensures.rise
-    c.begin-tx.ensures.settled (rw begun at c.in_ok-complete.ensures.transforms it) c.in_ok-found.ensures.looks early shown
+    c.begin-tx.ensures.settled (rw begun at c.in_ok-complete.ensures.transforms it) c.in_ok-found.ensures.does early shown

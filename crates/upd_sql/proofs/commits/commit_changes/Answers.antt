@@ -22,14 +22,14 @@ returns-clause-crash g c =
     let cs = map change_view c.args.changes.now in
     let Fits = AllCanBeDone (option_copied c.args.movable) cs in
     let made : Makes {X = Unit {0}} HoldsTables Fits (done_all cs) begun mid (Ok c.in_ok-carry_out_moving.field-0) =
-    rw c.begin-tx.ensures.begun at c.in_ok-carry_out_moving.ensures.makes in
+    rw c.begin-tx.ensures.begun at c.in_ok-carry_out_moving.ensures.does in
     let whole : Makes {X = Unit {0}} HoldsTables Fits (committed cs c.args.row.now) begun last (Ok c.in_ok-insert_run.field-0) =
     makes_as HoldsTables _ Fits _ (committed cs c.args.row.now) begun last (Ok c.in_ok-insert_run.field-0) (λ it fits. (fits, tt)) (λ it. refl)
     (makes_then HoldsTables Fits AnyTables (done_all cs) (with_run c.args.row.now) begun mid last c.in_ok-carry_out_moving.field-0
-    (Ok c.in_ok-insert_run.field-0) made c.in_ok-insert_run.ensures.makes) in
+    (Ok c.in_ok-insert_run.field-0) made c.in_ok-insert_run.ensures.makes.does) in
     let left = crash_leaves Fits (committed cs c.args.row.now) old last end c.in_ok-insert_run.field-0 c.begin-tx.ensures.rise
     c.begin-tx.ensures.settled whole
-    (λ clean. let early : HasCleanDisk mid = omega (arith, c.insert_run.ensures.makes.steps.survives.clean) in (made.steps.kept early refl).was_open
+    (λ clean. let early : HasCleanDisk mid = omega (arith, c.insert_run.ensures.makes.does.steps.survives.clean) in (made.steps.kept early refl).was_open
     (c.in_ok-insert_run.ensures.was_open clean (made.steps.going early refl))) c.commit.ensures.survives in
     let P = MayCommit Fits (committed cs c.args.row.now) old in
     let same : c.commit.new.self.0 ≡ c.conn-2-1.given.0 = search rules in

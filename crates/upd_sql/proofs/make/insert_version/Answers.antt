@@ -1,3 +1,4 @@
+use Rattle.std.proofs.Common.{rules}
 use Rattle.sqlite.specs.Held.{state}
 use Rattle.upd_sql.specs.Making.{HasEmptyTables, no_rows}
 use Rattle.upd_sql.specs.LibraryTables.{HoldsTables}
@@ -6,7 +7,11 @@ use Rattle.upd_sql.proofs.MakingLemmas.{transforms_from, version_written}
 use Rattle.upd_sql.proofs.make.insert_version.Goals as goal
 
 pub returns-clause-transforms : goal.returns-clause-transforms
-returns-clause-transforms g c =
-    let old = state g.S.Store c.args.tx.now.conn.now in
-    let new = state g.S.Store c.run.new.tx.conn.now in
-    transforms_from (HasEmptyTables 9) (HoldsTables no_rows) insert_version old new c.run.result c.run.ensures.ran (λ count ran h. version_written old new count ran h)
+returns-clause-transforms g c = record {
+  same_reference = search rules;
+  does =
+      let old = state g.S.Store c.args.tx.now.conn.now in
+      let new = state g.S.Store c.run.new.tx.conn.now in
+      transforms_from (HasEmptyTables 9) (HoldsTables no_rows) insert_version old new c.run.result c.run.ensures.ran
+      (λ count ran h. version_written old new count ran h);
+}

@@ -12,7 +12,7 @@ returns-clause-crash g c =
     let last = state g.S.Store c.make_tables.new.tx.conn.now in
     let end = state g.S.Store c.commit.new.self.0 in
     let begun = c.begin-tx.ensures.begun in
-    let left = making_leaves old last end c.in_ok-make_tables.field-0 c.begin-tx.ensures.settled (rw begun at c.in_ok-make_tables.ensures.transforms)
+    let left = making_leaves old last end c.in_ok-make_tables.field-0 c.begin-tx.ensures.settled (rw begun at c.in_ok-make_tables.ensures.transforms.does)
     (rw begun at c.in_ok-make_tables.ensures.was_open) c.commit.ensures.survives in
     let same : c.commit.new.self.0 ≡ c.conn-2-1.given.0 = search rules in
     subst (λ h. Survives old (state g.S.Store h) (MayMake old)) same (survives_begin g.S.Store c.args.conn.now end (MayMake old) left)

@@ -1,15 +1,27 @@
-use Rattle.std.proofs.Common.{◌≡◌, filter, ◌∙◌}
+use Rattle.std.proofs.Common.{◌≡◌, filter, [], ◌∷◌, ◌∙◌}
+use Rattle.sqlite_value.specs.declared.value.Value.TheVariants.{Text}
 use Rattle.sqlite.specs.Held.{state}
 use Rattle.upd_row_store.specs.Tables.{is_run, run_at}
-use Rattle.upd_sql.proofs.Finds.{first_is_run, on_value}
+use Rattle.upd_sql.specs.declared.texts.TheConstants.{RUN_OF_KEY}
+use Rattle.upd_sql.specs.Encoded.{num}
+use Rattle.upd_sql.proofs.Finds.{first_is_run, runs_found, on_value}
+use Rattle.upd_sql.proofs.ReadTexts.{run_of_key}
 use Rattle.upd_sql.proofs.WholeLemmas.{looked}
 use Rattle.upd_sql.proofs.reads.run_in.Goals as goal
 
-pub returns-clause-looks : goal.returns-clause-looks
-returns-clause-looks g c =
-    let looks = c.in_ok-rows.ensures.looks in
-    looked (λ it run. run ≡ run_at c.args.site.now c.args.number it) (state g.S.Store c.args.tx.now.conn.now) (state g.S.Store c.runs_of_key.new.tx.conn.now)
-    c.in_ok-rows.rows c.first_run.result looks.steps looks.was_open looks.same
-    (λ clean. on_value c.first_run.result c.first_run.ensures.found
-    (λ x says it h. says (filter (is_run c.args.site.now c.args.number) it.runs) (c.deref.ensures.value ∙ looks.found clean it h)
-    ∙ first_is_run c.args.site.now c.args.number it))
+pub returns : goal.returns
+returns g c =
+    let said = rw (c.in_ok-number.ensures.value, c.site.ensures) at c.in_ok-rows.ensures in
+    let site = c.args.site.now in
+    let n = c.args.number in
+    let old = state g.S.Store c.args.tx.now.conn.now in
+    let new = state g.S.Store c.rows_of.new.tx.conn.now in
+    let rows = c.in_ok-rows.rows in
+    record {
+      same_reference = said.same_reference;
+      does =
+          looked (λ it run. run ≡ run_at site n it) (λ rows. rows.items) RUN_OF_KEY.now (Text site ∷ num n ∷ []) old new rows c.first_run.result
+          run_of_key.plain
+          said.does (λ it h shown. on_value c.first_run.result c.first_run.ensures.found
+          (λ x says. says (filter (is_run site n) it.runs) (c.deref.ensures.value ∙ runs_found old new rows.items it h site n shown) ∙ first_is_run site n it));
+    }

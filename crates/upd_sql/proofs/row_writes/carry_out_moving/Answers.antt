@@ -15,7 +15,7 @@ loop-change-preserved g c =
     let before = map change_view (take c.loop-change.change-index c.args.changes.now) in
     let more = seen_more c.args.changes.now c.loop-change.change-index c.change-item.result c.loop-change-test.true c.change-item.is in
     let made = one_made movable before (change_view c.change-item.result) old (state g.S.Store c.loop-change.tx.conn.now) new tt
-    c.in_ok-carry_out_listed.field-0 c.loop-change.invariant.1 c.in_ok-carry_out_listed.ensures.makes in (
+    c.in_ok-carry_out_listed.field-0 c.loop-change.invariant.1 c.in_ok-carry_out_listed.ensures.does in (
       c.in_ok-carry_out_listed.ensures.same_reference ∙ c.loop-change.invariant.0,
       subst (λ (cs : List ChangeView). Makes {X = Unit {0}} HoldsTables (AllCanBeDone movable cs) (done_all cs) old new (Ok tt)) (sym more) made,
     )

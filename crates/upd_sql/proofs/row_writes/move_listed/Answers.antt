@@ -1,4 +1,4 @@
-use Rattle.std.proofs.Common.{ℕ, List, pos, Ok, refl, sym, subst, ◌∙◌}
+use Rattle.std.proofs.Common.{ℕ, List, pos, Ok, refl, sym, subst, ◌∙◌, rules}
 use Rattle.std.specs.Cmp.Lexicographic.{slice_cmp}
 use Rattle.std.specs.List.Sorted.{IsStrictlySortedBy}
 use Rattle.std.specs.Map.{keys_of}
@@ -44,14 +44,17 @@ loop-ident-preserved g c =
     c.loop-ident.invariant.2 in (
       c.in_ok-move_back_of.ensures.same_reference ∙ c.loop-ident.invariant.0,
       sorted_tail (slice_cmp nat_cmp) e.0 (keys_of es) up,
-      one_moved c.args.deck c.args.from c.args.by e es up c.args.movable.now old mid new tt (Ok tt) before c.in_ok-move_back_of.ensures.makes,
+      one_moved c.args.deck c.args.from c.args.by e es up c.args.movable.now old mid new tt (Ok tt) before c.in_ok-move_back_of.ensures.does,
     )
 
-pub returns-clause-makes : goal.returns-clause-makes
-returns-clause-makes g c =
-    let old = state g.S.Store c.args.tx.now.conn.now in
-    let new = state g.S.Store c.loop-ident.tx.conn.now in
-    let Can : Rows → Type 0 = λ it. Fits (CardsMoved c.args.deck c.args.from (pos c.args.by)) it
-    × MovesListed c.args.movable.now (CardsMoved c.args.deck c.args.from (pos c.args.by)) it in
-    subst (λ es. Makes {X = Unit {0}} HoldsTables Can (with_others_moved es c.args.deck c.args.from c.args.by) old new (Ok tt))
-    (rest_all deref_pair c.loop-ident.ident-iterator c.next.new.self c.next.result c.in-None.is c.next.ensures.steps) c.loop-ident.invariant.2
+pub returns : goal.returns
+returns g c = record {
+  same_reference = search rules;
+  does =
+      let old = state g.S.Store c.args.tx.now.conn.now in
+      let new = state g.S.Store c.loop-ident.tx.conn.now in
+      let Can : Rows → Type 0 = λ it. Fits (CardsMoved c.args.deck c.args.from (pos c.args.by)) it
+      × MovesListed c.args.movable.now (CardsMoved c.args.deck c.args.from (pos c.args.by)) it in
+      subst (λ es. Makes {X = Unit {0}} HoldsTables Can (with_others_moved es c.args.deck c.args.from c.args.by) old new (Ok tt))
+      (rest_all deref_pair c.loop-ident.ident-iterator c.next.new.self c.next.result c.in-None.is c.next.ensures.steps) c.loop-ident.invariant.2;
+}

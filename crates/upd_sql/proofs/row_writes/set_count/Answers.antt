@@ -1,4 +1,4 @@
-use Rattle.std.proofs.Common.{◌≡◌, ne_eqb, refl}
+use Rattle.std.proofs.Common.{◌≡◌, ne_eqb, refl, rules}
 use Rattle.sqlite.specs.Held.{state}
 use Rattle.upd_records.specs.Changes.{done, CountNow}
 use Rattle.upd_records.specs.Rows.{Rows}
@@ -8,12 +8,15 @@ use Rattle.upd_sql.specs.LibraryTables.{HoldsTables, AnyTables}
 use Rattle.upd_sql.proofs.Typed.{makes_both}
 use Rattle.upd_sql.proofs.row_writes.set_count.Goals as goal
 
-pub returns-clause-makes : goal.returns-clause-makes
-returns-clause-makes g c =
-    let old = state g.S.Store c.args.tx.now.conn.now in
-    let new = state g.S.Store c.insert_count.new.tx.conn.now in
-    let both = makes_both (without_count c.args.target) (with_count c.args.target c.args.n) old (state g.S.Store c.delete_count.new.tx.conn.now) new
-    c.in_ok-delete_count.field-0 c.insert_count.result c.in_ok-delete_count.ensures.makes c.insert_count.ensures.makes in
-    let same : (it : Rows) → with_count c.args.target c.args.n (without_count c.args.target it) ≡ done (CountNow c.args.target c.args.n) it =
-    λ it. rw (ne_eqb c.args.n 0 c.if-n-eq0.false) refl in
-    makes_as HoldsTables AnyTables AnyTables _ (done (CountNow c.args.target c.args.n)) old new c.insert_count.result (λ it any. any) same both
+pub returns : goal.returns
+returns g c = record {
+  same_reference = search rules;
+  does =
+      let old = state g.S.Store c.args.tx.now.conn.now in
+      let new = state g.S.Store c.insert_count.new.tx.conn.now in
+      let both = makes_both (without_count c.args.target) (with_count c.args.target c.args.n) old (state g.S.Store c.delete_count.new.tx.conn.now) new
+      c.in_ok-delete_count.field-0 c.insert_count.result c.in_ok-delete_count.ensures.does c.insert_count.ensures.does in
+      let same : (it : Rows) → with_count c.args.target c.args.n (without_count c.args.target it) ≡ done (CountNow c.args.target c.args.n) it =
+      λ it. rw (ne_eqb c.args.n 0 c.if-n-eq0.false) refl in
+      makes_as HoldsTables AnyTables AnyTables _ (done (CountNow c.args.target c.args.n)) old new c.insert_count.result (λ it any. any) same both;
+}

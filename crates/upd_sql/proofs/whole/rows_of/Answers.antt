@@ -4,12 +4,17 @@ use Rattle.upd_sql.proofs.Finds.{untouched}
 use Rattle.upd_sql.proofs.Typed.{was_open_from}
 use Rattle.upd_sql.proofs.whole.rows_of.Goals as goal
 
-pub returns-clause-was_open : goal.returns-clause-was_open
-returns-clause-was_open g c clean =
-    was_open_from (λ rows. rows.items) _ _ (state g.S.Store c.args.tx.now.conn.now) (state g.S.Store c.ask.new.tx.conn.now) c.ask.result
-    (c.ask.ensures.shown clean)
-
-pub returns-clause-same : goal.returns-clause-same
-returns-clause-same g c plain clean =
-    untouched (λ rows. rows.items) c.args.sql.now (bound c.args.params.now) (state g.S.Store c.args.tx.now.conn.now) (state g.S.Store c.ask.new.tx.conn.now) c.ask.result plain
-    (c.ask.ensures.shown clean)
+pub returns : goal.returns
+returns g c =
+    let old = state g.S.Store c.args.tx.now.conn.now in
+    let new = state g.S.Store c.ask.new.tx.conn.now in
+    record {
+      same_reference = c.ask.ensures.same_reference;
+      does = record {
+        steps = c.ask.ensures.steps;
+        was_open = λ clean. was_open_from (λ rows. rows.items) _ _ old new c.ask.result (c.ask.ensures.shown clean);
+        same = λ plain clean.
+            untouched (λ rows. rows.items) c.args.sql.now (bound c.args.params.now) old new c.ask.result plain (c.ask.ensures.shown clean);
+        shown = c.ask.ensures.shown;
+      };
+    }

@@ -1,10 +1,10 @@
 use Rattle.sqlite.specs.Held.{state}
-use Rattle.upd_sql.specs.Listed.{by_target}
-use Rattle.upd_sql.proofs.ReadTexts as query
+use Rattle.upd_sql.specs.Listed.{in_any_order}
+use Rattle.upd_sql.proofs.ReadTexts.{all_targets}
 use Rattle.upd_sql.proofs.WholeLemmas.{targets_listed}
 use Rattle.upd_sql.proofs.whole.targets_in.Goals as goal
 
-pub returns-clause-looks : goal.returns-clause-looks
-returns-clause-looks g c =
-    c.all_of.ensures.looks (λ it. it.targets) by_target query.all_targets_plain
+pub returns : goal.returns
+returns g c =
+    c.all_of.ensures (λ it. it.targets) in_any_order all_targets.plain
     (targets_listed (state g.S.Store c.args.tx.now.conn.now) (state g.S.Store c.all_of.new.tx.conn.now))

@@ -1,8 +1,0 @@
-//! The SQL statements.
-
-pub(crate) const ALL_VERSIONS: &str = "SELECT k, v FROM meta";
-
-pub(crate) const ALL_RUNS: &str =
-    "SELECT site, num, mode, body, accepted, reply FROM runs ORDER BY site, num";
-
-pub(crate) const ALL_MARKS: &str = "SELECT site, mark FROM settled ORDER BY site";
