@@ -15,19 +15,16 @@ use Rattle.upd_subcommands.specs.Inputs.{Frames, IsFirstRead, ReadsFirst}
 use Rattle.upd_subcommands.specs.ListingFile.{CorrectsListed}
 use Rattle.upd_subcommands.specs.Streams.{Stream, after, before}
 use Rattle.upd_words.specs.declared.words.Command.{Command}
-use Rattle.upd_words.specs.declared.words.Command.TheVariants.{Correct, Run, Serve, Spool, Try}
+use Rattle.upd_words.specs.declared.words.Command.TheVariants.{Correct, Serve}
 use Rattle.upd_cli.specs.Opened.{IsWarmed, OnFile}
 
 -- the ending with this status and these streams
 abbrev pub ending_of : {W E : Type 0} → ℕ → Stream W → Stream E → Ending
 ending_of status output faults = ending status (before output) (after output) (before faults) (after faults)
 
--- before runs are handed in the rows are read into memory
+-- before connections are served the rows are read into memory
 abbrev pub Begins : {S : Type 0} → Ghosts S → Command → S → S → Type 0
-Begins meaning (Run site number mode) old begun = IsWarmed meaning old begun
-Begins meaning Spool old begun = IsWarmed meaning old begun
 Begins meaning (Serve address count) old begun = IsWarmed meaning old begun
-Begins meaning (Try mode) old begun = IsWarmed meaning old begun
 Begins meaning _ old begun = begun ≡ old
 
 -- an edited text was answered from a listing

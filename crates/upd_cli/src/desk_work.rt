@@ -150,14 +150,12 @@ fn with_library<S: RowStore, R: Read, W: Write, E: Write>(
     (ended, desk.close().into_inner())
 }
 
-/// Reads the rows into memory before runs are handed in, if they can be had: a run asks for them more than once.
+/// Reads the rows into memory before connections are served, if they can be had.
 fn begin<S: RowStore>(alloc: Global, rows: &mut MirrorStore<S>, command: &Command<'_>)
     ensures { Begins ⟦<MirrorStore<S> as Meaning>⟧ command.now rows.old rows.new }
 {
     match command {
-        Command::Run { .. } | Command::Spool | Command::Serve { .. } | Command::Try { .. } => {
-            warm(alloc, rows)
-        }
+        Command::Serve { .. } => warm(alloc, rows),
         _ => {}
     }
 }
