@@ -1,2 +1,6 @@
 mod VersionLemmas
+pub mod OneLayout
 pub mod Opening
+pub mod TreeChains
+pub mod TreeFound
+pub mod TreeWalk

@@ -1,4 +1,4 @@
-//! The store over a connection of SQLite.
+//! The stores of a library's file: over a connection of SQLite, and, for reading, over the trees below SQL.
 #![tactic(auto)]
 
 pub mod file;
@@ -6,9 +6,16 @@ mod log_file;
 mod row_store;
 mod sql_store;
 mod store_faults;
+mod tree_finds;
+mod tree_library;
+mod tree_opening;
+mod tree_reads;
+mod tree_records;
+mod tree_store;
 mod version;
 
 pub use log_file::{has_frames, is_log_alone};
 pub use sql_store::SqlStore;
 pub use store_faults::{fault_of, no_memory, refused, store_at};
+pub use tree_store::TreeStore;
 pub use version::version_of;
