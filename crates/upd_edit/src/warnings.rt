@@ -93,7 +93,7 @@ fn push_empty(text: &mut Vec<u8>, lines: &[Line]) -> Result<(), AllocError>
         [] => push_warning(
             text,
             1,
-            &[b"the run is empty: it changes nothing, and uses its number"],
+            &[b"the run is empty: it changes nothing"],
         ),
         [_, ..] => Ok(()),
     }

@@ -137,12 +137,12 @@ fn an_empty_run_is_reported(rt: HostRuntime) -> Result<(), Fail> {
     expect_warnings(
         alloc,
         b"",
-        "upd: 1: the run is empty: it changes nothing, and uses its number\n",
+        "upd: 1: the run is empty: it changes nothing\n",
     )?;
     expect_warnings(
         alloc,
         b"*/ note\n",
         "upd: 1: dropped comments: 1, the first here\n\
-upd: 1: the run is empty: it changes nothing, and uses its number\n",
+upd: 1: the run is empty: it changes nothing\n",
     )
 }
