@@ -13,7 +13,7 @@ use Rattle.upd_subcommands.specs.Streams.{Stream, TakesFront, after, before}
 use Rattle.upd_subcommands.proofs.FailingLemmas.{told_no_mistake}
 use Rattle.upd_subcommands.proofs.StreamLemmas.{takes_nothing}
 use Rattle.upd_words.specs.declared.words.Command.{Command}
-use Rattle.upd_words.specs.declared.words.Command.TheVariants.{Run, Settle, Spool, Serve, Correct, Try, Ask}
+use Rattle.upd_words.specs.declared.words.Command.TheVariants.{Run, Settle, Spool, Serve, Correct, CorrectParts, Try, Ask}
 
 -- a file that isn't opened ends a command as memory and the store do
 pub unopened_fails : (fault : Fault) → IsUnopened fault → exit_status fault.kind ≡ 3
@@ -56,6 +56,8 @@ front_all Spool old mid new first none waits front other = absurd (other tt)
 front_all (Settle site number) old mid new first none waits front other = subst (TakesFront (MAX_RUN_BYTES + 1) old) (sym (waits (λ no. no))) first
 front_all (Serve address count) old mid new first none waits front other = subst (TakesFront (MAX_RUN_BYTES + 1) old) (sym (waits (λ no. no))) first
 front_all (Correct set) old mid new first none waits front other = subst (TakesFront (most_read (Correct set)) old) (sym (waits (λ no. no))) first
+front_all (CorrectParts set site number mode) old mid new first none waits front other =
+    subst (TakesFront (most_read (Correct set)) old) (sym (waits (λ no. no))) first
 front_all (Try mode) old mid new first none waits front other = subst (TakesFront (MAX_RUN_BYTES + 1) old) (sym (waits (λ no. no))) first
 front_all (Ask query) old mid new first none waits front other = subst (TakesFront (MAX_RUN_BYTES + 1) old) (sym (waits (λ no. no))) first
 

@@ -1,10 +1,13 @@
 -- Why there is no run.
-use Rattle.std.proofs.Common.{◌≡◌, ℕ, List, [], ◌++◌, ap, ◌∙◌}
-use Rattle.std.specs.Prelude.{Result, Ok, Err, OnOk}
+use Rattle.std.proofs.Common.{◌≡◌, ℕ, List, [], ◌++◌, sym, ap, ◌∙◌, subst}
+use Rattle.std.specs.Prelude.{Result, Ok, Err, IfErr, OnOk}
 use Rattle.upd_core.specs.Library.{LibraryView}
 use Rattle.upd_correct.specs.Corrections.{NewDeck}
+use Rattle.upd_correct.specs.declared.refusal.CorrectError.{CorrectError}
+use Rattle.upd_correct.specs.declared.refusal.CorrectError.TheVariants.{NoMemory, Refused}
 use Rattle.upd_correct.specs.declared.refusal.Refusal.{Refusal}
 use Rattle.upd_correct.specs.EditedText.{lines_in}
+use Rattle.upd_correct.specs.Parts.{IsPartsCause, part_name}
 use Rattle.upd_correct.specs.Problems.{set_problem}
 use Rattle.upd_correct.specs.ReadDecks.{AreReadFrom}
 use Rattle.upd_correct.specs.Refusals.{lines_refusals, refusals_at, refusals_of}
@@ -18,3 +21,18 @@ pub all_refused : (l : LibraryView) (set text : List ℕ) (first refusals : List
     → AreReadFrom l set first (lines_in text) decks refusals → refusals ≡ refusals_of l set text
 all_refused l set text first refusals decks of_set read =
     read.refused ∙ ap (λ first. first ++ lines_refusals l set [] (lines_in text)) of_set
+
+-- a text without problems can be refused for whatever its parts meet
+pub clean_cause : {A : Type 0} (l : LibraryView) (set text : List ℕ) (result : Result A CorrectError) → refusals_of l (part_name set 1) text ≡ []
+    → IfErr result (IsPartsCause l set text)
+clean_cause l set text (Ok x) clean = tt
+clean_cause l set text (Err NoMemory) clean = tt
+clean_cause l set text (Err (Refused refusals)) clean = λ wrong. absurd (wrong clean)
+
+-- the text has no problems for the set of the first part, by whatever names that is called
+pub clean_text : (l : LibraryView) (set checked_set read_set text : List ℕ) (first refusals : List Refusal) (decks : List NewDeck) → checked_set ≡ set
+    → read_set ≡ set → first ≡ refusals_at 0 0 (set_problem l checked_set) → AreReadFrom l read_set first (lines_in text) decks refusals
+    → refusals ≡ [] → refusals_of l set text ≡ []
+clean_text l set checked_set read_set text first refusals decks checked_is read_is of_set read none =
+    sym (all_refused l set text first refusals decks (of_set ∙ ap (λ s. refusals_at 0 0 (set_problem l s)) checked_is)
+    (subst (λ s. AreReadFrom l s first (lines_in text) decks refusals) read_is read)) ∙ none

@@ -15,3 +15,4 @@ pub mod Correcting
 pub mod Causes
 pub mod ListedDeck
 pub mod ListedRuns
+pub mod Parts

@@ -10,6 +10,7 @@ ghost use Rattle.upd_core.specs.Edits.{next_age};
 ghost use Rattle.upd_core.specs.Library.{cards_of, deck_of};
 ghost use Rattle.upd_core.specs.Status.{live_of, live_targets};
 ghost use Rattle.upd_correct.specs.Checked.{HasTexts};
+ghost use Rattle.upd_correct.specs.Parts.{IsLed};
 ghost use Rattle.upd_correct.specs.Checked.{AreDecksFrom, AreLeft, Brings, Corrects, HasOwnCards, IsDeckLeft, LeadsCards, LeavesCards, held_serials};
 
 use crate::checked_cards::{are_left, are_same_cards};
@@ -152,6 +153,32 @@ fn leave_cards(before: &Library, after: &Library, live: &Live, decks: &[EditedDe
         }
     }
     true
+}
+
+/// Whether the decks of a text were led to it, and the directory, every other deck and the yanks are as they were.
+pub(crate) fn is_led(
+    alloc: Global,
+    before: &Library,
+    after: &Library,
+    decks: &[EditedDeck],
+) -> Result<bool, Fault>
+    ensures { IfOk result (λ ok. IsTrue ok → IsLed before.now decks.now after.now) }
+{
+    let held = held_serials(alloc, before, decks)?;
+    if after.idents().len() < before.idents().len()
+        || after.decks().len() < before.decks().len()
+        || !is_rest(before, after)
+    {
+        return Ok(false);
+    }
+    let (idents, _) = after.idents().split_at(before.idents().len());
+    let (old, _) = after.decks().split_at(before.decks().len());
+    if !are_same_idents(before.idents(), idents) || !are_decks_left(&held, before.decks(), old) {
+        return Ok(false);
+    }
+    let live = after.live_yanks()?;
+    let same = have_texts(alloc, after, &live, decks)?;
+    Ok(same)
 }
 
 /// Whether a run by a set led the decks of a text to it, and changed nothing else.

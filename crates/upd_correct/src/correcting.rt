@@ -65,7 +65,11 @@ pub fn correct(
 }
 
 /// The refusal of the name of a set, if there is a problem with it.
-fn set_refusals(alloc: Global, library: &Library, set: &[u8]) -> Result<Vec<Refusal>, AllocError>
+pub(crate) fn set_refusals(
+    alloc: Global,
+    library: &Library,
+    set: &[u8],
+) -> Result<Vec<Refusal>, AllocError>
     ensures { IfOk result (λ refusals. refusals.items ≡ refusals_at 0 0 (set_problem library.now set.now)) }
 {
     let mut refusals = Vec::new(alloc);

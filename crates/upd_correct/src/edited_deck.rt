@@ -17,7 +17,7 @@ use upd_core::{Library, Live};
 use upd_text::Name;
 
 /// A deck of an edited text.
-#[derive(Debug, Drop)]
+#[derive(Drop)]
 pub(crate) struct EditedDeck<'a> {
     pub(crate) name: Name,
     pub(crate) common: bool,

@@ -13,7 +13,9 @@ mod checked_library;
 mod checked_texts;
 mod checking;
 pub mod correcting;
+pub mod edit_parts;
 mod edit_paths;
+mod edit_pieces;
 mod edited_deck;
 mod edited_lines;
 mod listed_card;
@@ -29,5 +31,6 @@ mod script;
 mod writer;
 
 pub use correcting::correct;
+pub use edit_parts::correct_parts;
 pub use listed_deck::{ListedError, correct_listed};
 pub use refusal::{CorrectError, Problem, Refusal};

@@ -15,7 +15,7 @@ use upd_text::line::split_once;
 use upd_text::{CardRef, Name};
 
 /// A card as its line in a listing tells it.
-#[derive(Debug, Drop)]
+#[derive(Drop)]
 pub(crate) struct ListedCard<'a> {
     pub(crate) active: bool,
     pub(crate) card: CardRef,

@@ -23,7 +23,7 @@ use upd_core::{Card, Library, Live, Serial};
 use upd_text::Name;
 
 /// A deck and its segments.
-#[derive(Debug, Drop)]
+#[derive(Drop)]
 pub(crate) struct Correction<'a> {
     pub(crate) deck: Serial,
     pub(crate) segments: Vec<Segment<'a>>,

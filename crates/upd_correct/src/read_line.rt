@@ -15,7 +15,7 @@ use upd_text::limits::MAX_LINE_BYTES;
 use upd_text::{Fault, FaultKind};
 
 /// A line of an edited text.
-#[derive(Debug, Drop)]
+#[derive(Drop)]
 pub(crate) enum LineRead<'a> {
     /// The first line of a deck.
     Head(EditedDeck<'a>),

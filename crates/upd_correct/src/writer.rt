@@ -22,7 +22,7 @@ use upd_core::card::card_ref;
 use upd_core::{Card, CardRef, Ident};
 
 /// A run so far.
-#[derive(Debug, Drop)]
+#[derive(Drop)]
 pub(crate) struct RunText {
     pub(crate) bytes: Vec<u8>,
     /// The number of its lines; it stays at the greatest value.

@@ -1,9 +1,11 @@
 -- Why there is no run for an edited text of a desk.
-use Rattle.std.specs.Prelude.{ℕ, ◌≤◌, length, Result, Ok, Err}
+use Rattle.std.specs.Prelude.{◌≡◌, ℕ, ◌≤◌, [], length, Result, Ok, Err}
 use Rattle.upd_text.specs.Units.{Bytes}
 use Rattle.upd_core.specs.Library.{LibraryView}
 use Rattle.upd_row_store.specs.Keeping.{IsLost, failures_with}
 use Rattle.upd_correct.specs.Causes.{AreRefusals}
+use Rattle.upd_correct.specs.Parts.{part_name}
+use Rattle.upd_correct.specs.Refusals.{refusals_of}
 use Rattle.upd_edit.specs.declared.editing.EditError.{EditError}
 use Rattle.upd_edit.specs.declared.editing.EditError.TheVariants.{Failed, Refused}
 use Rattle.upd_edit.specs.declared.editing.TheConstants.{MAX_TEXT_BYTES}
@@ -12,6 +14,12 @@ use Rattle.upd_edit.specs.declared.editing.TheConstants.{MAX_TEXT_BYTES}
 abbrev pub IsEditCause : LibraryView → Bytes → Bytes → EditError → Type 0
 IsEditCause l set text (Failed fault) = Unit {0}
 IsEditCause l set text (Refused refusals) = AreRefusals l set text refusals.items
+
+-- a text with problems is refused with all of them, for the set of the first part
+abbrev pub IsPartsRefusal : LibraryView → Bytes → Bytes → EditError → Type 0
+IsPartsRefusal l set text (Failed fault) = Unit {0}
+IsPartsRefusal l set text (Refused refusals) =
+    (refusals_of l (part_name set 1) text ≡ [] → ⊥) → refusals.items ≡ refusals_of l (part_name set 1) text
 
 -- a failure is a loss, where the text isn't too long
 abbrev pub IsEditLoss : Bytes → EditError → Type 0

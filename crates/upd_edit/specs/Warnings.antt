@@ -109,7 +109,7 @@ line_warnings l line = item_warnings l line.number line.text line.item
 
 -- the warning of a run with no lines
 abbrev pub empty_warning : List LineView → Bytes
-empty_warning [] = warning 1 (codes "the run is empty: it changes nothing, and uses its number" ∷ [])
+empty_warning [] = warning 1 (codes "the run is empty: it changes nothing" ∷ [])
 empty_warning (line ∷ lines) = []
 
 -- the warnings of a run by its reading: of its comments, and then of its lines in order; none where it can't be read

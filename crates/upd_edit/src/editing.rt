@@ -1,16 +1,17 @@
 //! The same of the library that a desk holds. Nothing changes, and no number is used.
-ghost use Rattle.std.specs.Prelude.{◌≡◌, ◌<◌, ◌≤◌, ◌⊎◌, [], Err, IfErr, IfOk, Ok, OnOk, length};
+ghost use Rattle.std.specs.Prelude.{◌≡◌, ◌<◌, ◌≤◌, ◌⊎◌, [], Err, IfErr, IfOk, Ok, OnOk, length, map};
 ghost use Rattle.std.specs.Result.{result_map_both};
 ghost use Rattle.upd_text.specs.Faults.{fault_at};
 ghost use Rattle.upd_text.specs.declared.fault.FaultKind.TheVariants.{RunLong};
 ghost use Rattle.upd_correct.specs.Correcting.{CorrectsTo};
+ghost use Rattle.upd_correct.specs.Parts.{CorrectsInParts};
 ghost use Rattle.upd_correct.specs.Refusals.{refusals_of};
 ghost use Rattle.upd_desk.specs.Arrivals.{check_arrival};
 ghost use Rattle.upd_desk.specs.Holding.{EachHeld, Tells};
 ghost use Rattle.upd_desk.specs.Journal.{library_after};
 ghost use Rattle.upd_desk.specs.Outcomes.{reply_on};
 ghost use Rattle.upd_edit.specs.ActiveText.{active_text};
-ghost use Rattle.upd_edit.specs.EditCauses.{IsEditCause, IsEditLoss, failures_after_edit};
+ghost use Rattle.upd_edit.specs.EditCauses.{IsEditCause, IsEditLoss, IsPartsRefusal, failures_after_edit};
 ghost use Rattle.upd_edit.specs.Source.{source};
 ghost use Rattle.upd_edit.specs.Trying.{tried};
 ghost use Rattle.upd_edit.specs.Warnings.{warning_lines};
@@ -22,7 +23,7 @@ use crate::warnings::warning_lines;
 use std::alloc::Global;
 use upd_compile::CompileFile;
 use upd_core::Name;
-use upd_correct::{CorrectError, Refusal, correct};
+use upd_correct::{CorrectError, Refusal, correct, correct_parts};
 use upd_desk::{Arrival, Desk, Reply, reply_on};
 use upd_row_store::RowStore;
 use upd_text::limits::{MAX_CARDS, MAX_LINE_BYTES};
@@ -152,6 +153,40 @@ pub fn correct_at<S: RowStore>(
     match desk.library(alloc) {
         Ok(library) => match correct(alloc, &library, set, text) {
             Ok(run) => Ok(run),
+            Err(CorrectError::NoMemory) => Err(EditError::Failed(
+                FaultKind::NoMemory.without_line(),
+            )),
+            Err(CorrectError::Refused(refusals)) => Err(EditError::Refused(refusals)),
+        },
+        Err(fault) => Err(EditError::Failed(fault)),
+    }
+}
+
+/// The runs that lead decks to their edited texts one after the other, as `upd_correct::correct_parts` makes them.
+///
+/// After NoMemory or Store, at 0, it can be asked again.
+pub fn parts_at<S: RowStore>(
+    alloc: Global,
+    desk: &mut Desk<S>,
+    set: &[u8],
+    text: &[u8],
+) -> Result<Vec<Vec<u8>>, EditError>
+    ensures corrects { EachHeld S.Meaning desk.old.store desk.new.store
+        (λ journal. IfOk result (λ runs. CorrectsInParts (library_after journal) set.now text.now (map (λ run. run.items) runs.items))) }
+    ensures refused { EachHeld S.Meaning desk.old.store desk.new.store
+        (λ journal. IfErr result (IsPartsRefusal (library_after journal) set.now text.now)) }
+    ensures lost { IfErr result (IsEditLoss text.now) }
+    ensures long { MAX_TEXT_BYTES < length text.now
+        → IfErr result (λ error. error ≡ EditError.Failed (fault_at RunLong 0)) }
+    ensures same { Keeps S.Meaning desk.old.store desk.new.store }
+    ensures failed { S.failures_of desk.new.store ≡ failures_after_edit result (S.failures_of desk.old.store) }
+{
+    if text.len() > MAX_TEXT_BYTES {
+        return Err(EditError::Failed(FaultKind::RunLong.without_line()));
+    }
+    match desk.library(alloc) {
+        Ok(library) => match correct_parts(alloc, &library, set, text) {
+            Ok(runs) => Ok(runs),
             Err(CorrectError::NoMemory) => Err(EditError::Failed(
                 FaultKind::NoMemory.without_line(),
             )),

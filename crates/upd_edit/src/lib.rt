@@ -15,6 +15,8 @@ mod yank_warnings;
 
 pub use deck_source::source;
 pub use deck_text::active_text;
-pub use editing::{EditError, MAX_TEXT_BYTES, correct_at, source_at, text_at, try_at, warnings_at};
+pub use editing::{
+    EditError, MAX_TEXT_BYTES, correct_at, parts_at, source_at, text_at, try_at, warnings_at,
+};
 pub use refused::refusal_lines;
 pub use warnings::warning_lines;

@@ -90,11 +90,7 @@ fn push_empty(text: &mut Vec<u8>, lines: &[Line]) -> Result<(), AllocError>
     ensures { OnOk result (text.new.items ≡ text.old.items ++ empty_warning lines.now) }
 {
     match lines {
-        [] => push_warning(
-            text,
-            1,
-            &[b"the run is empty: it changes nothing, and uses its number"],
-        ),
+        [] => push_warning(text, 1, &[b"the run is empty: it changes nothing"]),
         [_, ..] => Ok(()),
     }
 }

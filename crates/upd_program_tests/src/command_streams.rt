@@ -227,6 +227,7 @@ const ABOUT: &[(&str, &str)] = &[
     ("page", "Writes the library as one page"),
     ("text", "Writes the active cards of a deck"),
     ("correct", "Writes the run that corrects decks"),
+    ("correct-parts", "Writes the spool of runs that correct"),
     ("try", "Writes the reply that the run"),
     ("source", "Writes the compile file of one"),
     ("runs", "Lists the stored runs"),

@@ -86,6 +86,65 @@ fn a_correction_run_leads_decks_to_their_texts(rt: HostRuntime) -> Result<(), Fa
     session(&rt, "correct", STEPS)
 }
 
+/// The frame of this run, and what the desk answers it.
+const SPOOL: &str =
+    "RUN LYON 3 quick 54\n*IDENT T1\n*DELETE A.2\nUN\n*INSERT A.5\nFOUR\n*DECK B\nNEW\n\n";
+
+const SPOOLED: &str =
+    "{\"compile\":\"\",\"idents\":[\"T1\",\"B\"],\"lines\":0,\"mode\":\"quick\",\"run\":3,\"site\":\"LYON\",\
+\"state\":\"accepted\"}\n";
+
+#[test]
+fn a_spool_leads_decks_to_their_texts(rt: HostRuntime) -> Result<(), Fail> {
+    const BAD_NUMBER: Wanted<'_> = (1, "", "upd: BadNumber (24) at 0\n");
+    const BAD_SITE: Wanted<'_> = (1, "", "upd: BadSite (23) at 0\n");
+    const BAD_WORD: Wanted<'_> = (1, "", "upd: BadMode (25) at 0\n");
+    const LONG_NAME: Wanted<'_> = (1, "", "BadName 0:0 the set's name is not a name\n");
+    const PARTS: &str = "correct-parts";
+    const STEPS: &[Step<'_>] = &[
+        FIRST,
+        SECOND,
+        Step::Answers(PARTS, &["T", "LYON", "0", "quick"], EDITED, BAD_NUMBER),
+        Step::Answers(PARTS, &["T", "lyon", "3", "quick"], EDITED, BAD_SITE),
+        Step::Answers(PARTS, &["T", "LYON", "3", "slow"], EDITED, BAD_WORD),
+        Step::Answers(
+            PARTS,
+            &["ABCDEFGHI", "LYON", "3", "quick"],
+            EDITED,
+            LONG_NAME,
+        ),
+        Step::Answers(PARTS, &["T", "LYON", "3", "quick"], EDITED, (0, SPOOL, "")),
+        Step::Writes("idents", &[], IDENTS),
+        Step::Answers("spool", &[], SPOOL, (0, SPOOLED, "")),
+        Step::Answers(PARTS, &["U", "LYON", "4", "quick"], EDITED, (0, "", "")),
+    ];
+    session(&rt, "parts", STEPS)
+}
+
+#[test]
+fn no_frame_is_numbered_past_the_greatest(rt: HostRuntime) -> Result<(), Fail> {
+    let file = library(&rt, "numbers")?;
+    let mut text = String::from_str(rt.alloc(), "*DECK B\n")?;
+    for _ in 0..2_100 {
+        text.push_str("NEW\n")?;
+    }
+    let words = [
+        "correct-parts",
+        file.as_str(),
+        "T",
+        "LYON",
+        "999999999",
+        "quick",
+    ];
+    answers(
+        &rt,
+        &words,
+        text.as_str(),
+        (1, "", "upd: BadNumber (24) at 0\n"),
+    )?;
+    remove(&rt, &file)
+}
+
 const REFUSED: &str = "AHEAD\n*DECK A\n*/ C\n\x01\n*INSERT A.2\n*DECK  C\n";
 
 const REFUSALS: &str = "NameTaken 0:0 this name is in use\n\

@@ -51,6 +51,7 @@ pub const COMMANDS: &[(&str, &[&str])] = &[
     ("yanks", &[]),
     ("text", &["A"]),
     ("correct", &["A"]),
+    ("correct-parts", &["A", "LYON", "1", "full"]),
     ("try", &["full"]),
     ("source", &["A"]),
     ("migrate", &[]),

@@ -6,3 +6,4 @@ pub mod QueryAnswers
 pub mod FailingLemmas
 pub mod TriedLemmas
 pub mod LineLemmas
+pub mod PartLemmas

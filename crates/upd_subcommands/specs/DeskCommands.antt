@@ -17,6 +17,7 @@ use Rattle.upd_subcommands.specs.Command.{Ending, ending}
 use Rattle.upd_subcommands.specs.Status.{no_memory, read_failed}
 use Rattle.upd_subcommands.specs.Streams.{IsRunOn, Stream, after, before}
 use Rattle.upd_subcommands.specs.Correcting.{ReportsCorrection}
+use Rattle.upd_subcommands.specs.Parts.{CorrectsParts}
 use Rattle.upd_subcommands.specs.Reporting.{ReportsMark, ReportsRun, ReportsText, ReportsTried}
 use Rattle.upd_edit.specs.ActiveText.{active_text}
 use Rattle.upd_edit.specs.Source.{source}
@@ -36,7 +37,7 @@ use Rattle.upd_wire.specs.Spools.{Ends}
 use Rattle.upd_wire.specs.Serving.{LeadsThrough, Made}
 use Rattle.upd_subcommands.specs.Listening.{ReportsPlace}
 use Rattle.upd_words.specs.declared.words.Command.{Command}
-use Rattle.upd_words.specs.declared.words.Command.TheVariants.{Run, Settle, Spool, Serve, Correct, Try, Ask}
+use Rattle.upd_words.specs.declared.words.Command.TheVariants.{Run, Settle, Spool, Serve, Correct, CorrectParts, Try, Ask}
 use Rattle.upd_words.specs.declared.querying.Query.{Query}
 use Rattle.upd_words.specs.declared.querying.Query.TheVariants.{Compile, Deck, Card, Idents, Yanks, View}
 use Rattle.upd_words.specs.declared.querying.View as views
@@ -142,6 +143,9 @@ module _ {S : Type 0} (meaning : Ghosts S) where
   Does (Serve address count) text ended old new input output faults = EndsServing count ended old new (before faults) (after faults)
   Does (Correct set) text ended old new input output faults =
       IsOkAnd ended (λ status. CorrectsText set.now text old new (ending status (before output) (after output) (before faults) (after faults)))
+  Does (CorrectParts set site number mode) text ended old new input output faults =
+      IsOkAnd ended (λ status. CorrectsParts meaning set.now site.now number mode.now text old new
+      (ending status (before output) (after output) (before faults) (after faults)))
   Does (Try mode) text ended old new input output faults =
       IsOkAnd ended (λ status. TriesRun mode.now text old new (ending status (before output) (after output) (before faults) (after faults)))
   Does (Ask query) text ended old new input output faults = AsksQuery query ended old new (before output) (after output)

@@ -6,6 +6,7 @@ pub mod Inputs
 pub mod Reporting
 pub mod Explaining
 pub mod Correcting
+pub mod Parts
 pub mod ListingFile
 pub mod Listening
 pub mod DeskCommands

@@ -13,6 +13,7 @@ use crate::arriving::{hand_in, settle, try_run};
 use crate::correction_command::correct_text;
 use crate::exit_status::DONE;
 use crate::listening::report_place;
+use crate::parts_command::correct_text_in_parts;
 use crate::queries::answer_query;
 use crate::streams::{read_front, read_input};
 use std::alloc::Global;
@@ -25,7 +26,7 @@ use upd_text::{Fault, FaultKind};
 use upd_wire::{serve_on_within, spool};
 use upd_words::Command;
 
-/// What `try` and `correct` read of the input before the file is opened, so that it can come from a command on the same
+/// What `try`, `correct` and `correct-parts` read of the input before the file is opened, so that it can come from a command on the same
 /// file. Nothing for another command.
 pub fn read_first<R: Read>(
     alloc: Global,
@@ -40,7 +41,9 @@ pub fn read_first<R: Read>(
 {
     match command {
         Command::Try { .. } => read_input(alloc, input),
-        Command::Correct { .. } => read_front(alloc, input, MAX_TEXT_BYTES + 1),
+        Command::Correct { .. } | Command::CorrectParts { .. } => {
+            read_front(alloc, input, MAX_TEXT_BYTES + 1)
+        }
         _ => Ok(Vec::new(alloc)),
     }
 }
@@ -76,6 +79,12 @@ pub fn carry_out_at<S: RowStore, R: Read, W: Write, E: Write>(
         Command::Spool => read_spool(alloc, desk, input, output),
         Command::Serve { address, count } => serve(rt, *address, *count, desk, faults),
         Command::Correct { set } => Ok(correct_text(alloc, desk, set, text, output, faults)),
+        Command::CorrectParts {
+            set,
+            site,
+            number,
+            mode,
+        } => Ok(correct_text_in_parts(alloc, desk, set, site, *number, mode, text, output, faults)),
         Command::Try { mode } => Ok(try_run(alloc, desk, mode, text, output, faults)),
         Command::Ask(query) => answer_query(alloc, desk, query, output),
     }

@@ -11,6 +11,7 @@ mod exit_status;
 mod explaining;
 mod listening;
 mod listing_file;
+mod parts_command;
 mod queries;
 mod streams;
 mod trial_run;

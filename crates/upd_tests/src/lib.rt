@@ -39,6 +39,8 @@ mod purge_runs;
 #[cfg(test)]
 mod surface;
 #[cfg(test)]
+mod texts_in_parts;
+#[cfg(test)]
 mod texts_read;
 #[cfg(test)]
 mod tried_runs;

@@ -134,15 +134,11 @@ fn decks_that_a_yank_leaves_are_reported(rt: HostRuntime) -> Result<(), Fail> {
 #[test]
 fn an_empty_run_is_reported(rt: HostRuntime) -> Result<(), Fail> {
     let alloc = rt.alloc();
-    expect_warnings(
-        alloc,
-        b"",
-        "upd: 1: the run is empty: it changes nothing, and uses its number\n",
-    )?;
+    expect_warnings(alloc, b"", "upd: 1: the run is empty: it changes nothing\n")?;
     expect_warnings(
         alloc,
         b"*/ note\n",
         "upd: 1: dropped comments: 1, the first here\n\
-upd: 1: the run is empty: it changes nothing, and uses its number\n",
+upd: 1: the run is empty: it changes nothing\n",
     )
 }

@@ -16,7 +16,7 @@ use Rattle.upd_words.specs.Operands.{IsNoAddress, card_read, name_read, number_r
 use Rattle.upd_words.specs.declared.words.Request.{Request}
 use Rattle.upd_words.specs.declared.words.Request.TheVariants.{Trial, Init, Library, Runs, Sites, Backup, Examine, Migrate, Explain, Shown, Unread, NoAddress}
 use Rattle.upd_words.specs.declared.words.Command.{Command}
-use Rattle.upd_words.specs.declared.words.Command.TheVariants.{Run, Settle, Spool, Serve, Correct, Try, Ask}
+use Rattle.upd_words.specs.declared.words.Command.TheVariants.{Run, Settle, Spool, Serve, Correct, CorrectParts, Try, Ask}
 use Rattle.upd_words.specs.declared.querying.Query.{Query}
 use Rattle.upd_words.specs.declared.querying.Query.TheVariants.{Compile, Deck, Card, Idents, Yanks, View}
 use Rattle.upd_words.specs.declared.querying.View.TheVariants.{Blame, Ident, Page, Text as PlainText, Source}
@@ -56,6 +56,10 @@ upd_commands =
     ∷ (codes "page", word_of (codes "FILE") ∷ [])
     ∷ (codes "text", word_of (codes "FILE") ∷ word_of (codes "DECK") ∷ [])
     ∷ (codes "correct", word_of (codes "FILE") ∷ word_of (codes "SET") ∷ [])
+    ∷ (
+      codes "correct-parts",
+      word_of (codes "FILE") ∷ word_of (codes "SET") ∷ word_of (codes "SITE") ∷ word_of (codes "NUMBER") ∷ word_of (codes "MODE") ∷ [],
+    )
     ∷ (codes "try", word_of (codes "FILE") ∷ word_of (codes "MODE") ∷ [])
     ∷ (codes "source", word_of (codes "FILE") ∷ word_of (codes "DECK") ∷ [])
     ∷ (codes "runs", word_of (codes "FILE") ∷ [])
@@ -83,7 +87,7 @@ file_commands =
 
 -- those that use it for more than a text about the library, but for `serve`
 abbrev pub desk_commands : List Text
-desk_commands = codes "run" ∷ codes "settle" ∷ codes "spool" ∷ codes "correct" ∷ codes "try" ∷ []
+desk_commands = codes "run" ∷ codes "settle" ∷ codes "spool" ∷ codes "correct" ∷ codes "correct-parts" ∷ codes "try" ∷ []
 
 -- the program before its first command; `clap` adds a command `help`
 abbrev pub upd_top : App
@@ -154,6 +158,7 @@ command_name (Settle site number) = codes "settle"
 command_name Spool = codes "spool"
 command_name (Serve address count) = codes "serve"
 command_name (Correct set) = codes "correct"
+command_name (CorrectParts set site number mode) = codes "correct-parts"
 command_name (Try mode) = codes "try"
 command_name (Ask query) = query_name query
 
@@ -166,6 +171,8 @@ HasOperands rows Spool = Unit {0}
 HasOperands rows (Serve address count) =
     IsSocketText (operand_in (codes "ADDRESS") rows) address × IsCount (operand_in (codes "COUNT") rows) count
 HasOperands rows (Correct set) = set.now ≡ operand_in (codes "SET") rows
+HasOperands rows (CorrectParts set site number mode) = (set.now ≡ operand_in (codes "SET") rows) × (site.now ≡ operand_in (codes "SITE") rows)
+    × (number_read (operand_in (codes "NUMBER") rows) ≡ Ok number) × (mode.now ≡ operand_in (codes "MODE") rows)
 HasOperands rows (Try mode) = mode.now ≡ operand_in (codes "MODE") rows
 HasOperands rows (Ask query) = HasQueried rows query
 
@@ -209,7 +216,7 @@ IsNamed name (other ∷ others) = (name ≡ other) ⊎ IsNamed name others
 -- an operand of the command of this name is refused so
 abbrev pub IsRefused : Text × List Row → Fault → Type 0
 IsRefused (name, rows) fault =
-    (IsNamed name (codes "run" ∷ codes "settle" ∷ []) × (number_read (operand_in (codes "NUMBER") rows) ≡ Err fault))
+    (IsNamed name (codes "run" ∷ codes "settle" ∷ codes "correct-parts" ∷ []) × (number_read (operand_in (codes "NUMBER") rows) ≡ Err fault))
     ⊎ ((IsNamed name (codes "list" ∷ codes "blame" ∷ codes "text" ∷ codes "source" ∷ []) × (name_read (operand_in (codes "DECK") rows) ≡ Err fault))
     ⊎ (((name ≡ codes "show") × (name_read (operand_in (codes "IDENT") rows) ≡ Err fault))
     ⊎ ((name ≡ codes "history") × (card_read (operand_in (codes "CARD") rows) ≡ Err fault))))

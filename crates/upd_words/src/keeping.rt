@@ -3,15 +3,15 @@ ghost use Rattle.std.specs.Prelude.{◌≡◌, IfOk, take};
 ghost use Rattle.clap.specs.Words.{app_of};
 ghost use Rattle.upd_words.specs.Words.{app_with, upd_commands};
 
-use crate::app::{DECK, FILE, MODE, Operand, Text, with_command};
+use crate::app::{DECK, FILE, MODE, NUMBER, Operand, SITE, Text, with_command};
 use crate::querying::fifth_commands;
 use clap::Command;
 use clap::builder::ValueParser;
 use std::alloc::{AllocError, Global};
 
-/// The program with its first twenty-one commands.
+/// The program with its first twenty-two commands.
 pub(crate) fn seventh_commands<'a>(alloc: Global) -> Result<Command<'a>, AllocError>
-    ensures { IfOk result (λ c. app_of c ≡ app_with (take 21 upd_commands)) }
+    ensures { IfOk result (λ c. app_of c ≡ app_with (take 22 upd_commands)) }
 {
     const COPY: Operand = (
         "COPY",
@@ -24,9 +24,9 @@ pub(crate) fn seventh_commands<'a>(alloc: Global) -> Result<Command<'a>, AllocEr
     with_command(app, alloc, "backup", BACKUP, &[FILE, COPY])
 }
 
-/// The program with its first eighteen commands.
+/// The program with its first nineteen commands.
 fn sixth_commands<'a>(alloc: Global) -> Result<Command<'a>, AllocError>
-    ensures { IfOk result (λ c. app_of c ≡ app_with (take 18 upd_commands)) }
+    ensures { IfOk result (λ c. app_of c ≡ app_with (take 19 upd_commands)) }
 {
     const SET: Operand = (
         "SET",
@@ -35,6 +35,8 @@ fn sixth_commands<'a>(alloc: Global) -> Result<Command<'a>, AllocError>
     );
     let app = fifth_commands(alloc)?;
     let app = with_command(app, alloc, "correct", CORRECT, &[FILE, SET])?;
+    let parts = [FILE, SET, SITE, NUMBER, MODE];
+    let app = with_command(app, alloc, "correct-parts", CORRECT_PARTS, &parts)?;
     let app = with_command(app, alloc, "try", TRY, &[FILE, MODE])?;
     with_command(app, alloc, "source", SOURCE, &[FILE, DECK])
 }
@@ -61,6 +63,25 @@ Example, after `upd init library.db`:
   printf '*DECK A\\nONE\\n' | upd run library.db LYON 1 full
   upd text library.db A | sed 's/ONE/TWO/' | upd correct library.db FIX > fix.run
   upd run library.db LYON 2 full < fix.run",
+};
+
+const CORRECT_PARTS: Text = Text {
+    about: "Writes the spool of runs that correct decks to the edited text on standard input",
+    more: "\
+Reads a text as `upd correct` does, and writes frames for `upd spool`. Where one run is enough, there
+is one frame; a longer edit is cut into runs that lead to the text one after the other. Their sets
+are SET1, SET2 and so on, their numbers NUMBER, NUMBER+1 and so on. Where nothing differs there is no
+frame. Changes nothing: send the frames in order, with no other run between them.
+
+A text is refused as by `upd correct`, and nothing is written then.
+
+Exit status: 0 done; 1 the text is refused, or SITE, MODE or a number is not valid; 2 the command line
+can't be read; 3 out of memory, or the library, a read or a write failed.
+
+Example, after `upd init library.db`:
+  printf '*DECK A\\nONE\\n' | upd run library.db LYON 1 full
+  upd text library.db A | sed 's/ONE/TWO/' | upd correct-parts library.db FIX LYON 2 full > fix.spool
+  upd spool library.db < fix.spool",
 };
 
 const TRY: Text = Text {
@@ -128,9 +149,9 @@ Example, after `upd init library.db`:
 const BACKUP: Text = Text {
     about: "Makes a whole copy of a library's file",
     more: "\
-Reads and writes nothing. COPY is made and must not exist, nor a file COPY-wal or COPY.part. The copy
-is a library by itself: it has also what is still in the log beside FILE. No other command may have
-FILE open.
+Copies the library in FILE, with what is still in the log beside it, to the new file COPY: a library by
+itself. COPY must not exist, nor COPY-wal or COPY.part. FILE isn't changed, and no other command may
+have it open. Nothing is read from standard input or written to standard output.
 
 Exit status: 0 done; 2 the command line can't be read; 3 COPY exists or can't be made, out of memory,
 or the library failed. The fault is one line on standard error.

@@ -67,6 +67,12 @@ pub enum Command<'a> {
     Correct {
         set: &'a str,
     },
+    CorrectParts {
+        set: &'a str,
+        site: &'a str,
+        number: u64,
+        mode: &'a str,
+    },
     Try {
         mode: &'a str,
     },
@@ -171,6 +177,15 @@ fn read_desk_command<'a>(name: &str, operands: &ArgMatches<'a>) -> Result<Comman
         "correct" => Ok(Command::Correct {
             set: word(operands, "SET"),
         }),
+        "correct-parts" => match number(operands) {
+            Ok(number) => Ok(Command::CorrectParts {
+                set: word(operands, "SET"),
+                site: word(operands, "SITE"),
+                number,
+                mode: word(operands, "MODE"),
+            }),
+            Err(fault) => Err(fault),
+        },
         "try" => Ok(Command::Try {
             mode: word(operands, "MODE"),
         }),

@@ -1,0 +1,29 @@
+use Rattle.std.proofs.Common.{◌≡◌, [], sym, subst, ◌∙◌, arith}
+use Rattle.std.proofs.lemmas.Bool.Decides.{nat_tests}
+use Rattle.upd_correct.specs.EditedText.{HasDecks}
+use Rattle.upd_correct.specs.Parts.{part_name}
+use Rattle.upd_correct.proofs.CauseLemmas.{clean_cause, clean_text, on_ok}
+use Rattle.upd_correct.proofs.ScriptLemmas.{no_items}
+use Rattle.upd_correct.proofs.edit_parts.correct_parts.Goals as goal
+
+pub returns-clause-corrects : goal.returns-clause-corrects
+returns-clause-corrects c =
+    let none : c.read_decks.new.refusals.items ≡ [] =
+    no_items c.read_decks.new.refusals.items (grind (arith, nat_tests, c.read_decks.new.refusals.ok, c.is_empty.ensures, c.if-not-is_empty.false)) in
+    c.parts_for.ensures (subst (HasDecks c.args.text.now) (sym c.deref-3.ensures.value) (c.in_ok-decks.ensures.given none))
+
+pub returns-clause-clean : goal.returns-clause-clean
+returns-clause-clean c =
+    let none : c.read_decks.new.refusals.items ≡ [] =
+    no_items c.read_decks.new.refusals.items (grind (arith, nat_tests, c.read_decks.new.refusals.ok, c.is_empty.ensures, c.if-not-is_empty.false)) in
+    on_ok c.parts_for.result
+    (clean_text c.args.library.now (part_name c.args.set.now 1) _ _ c.args.text.now _ _ _ (c.deref.ensures.value ∙ c.in_ok-first.ensures)
+    (c.deref-2.ensures.value ∙ c.in_ok-first.ensures) c.in_ok-refusals.ensures c.in_ok-decks.ensures none)
+
+pub returns-clause-refused : goal.returns-clause-refused
+returns-clause-refused c =
+    let none : c.read_decks.new.refusals.items ≡ [] =
+    no_items c.read_decks.new.refusals.items (grind (arith, nat_tests, c.read_decks.new.refusals.ok, c.is_empty.ensures, c.if-not-is_empty.false)) in
+    clean_cause c.args.library.now c.args.set.now c.args.text.now c.parts_for.result
+    (clean_text c.args.library.now (part_name c.args.set.now 1) _ _ c.args.text.now _ _ _ (c.deref.ensures.value ∙ c.in_ok-first.ensures)
+    (c.deref-2.ensures.value ∙ c.in_ok-first.ensures) c.in_ok-refusals.ensures c.in_ok-decks.ensures none)

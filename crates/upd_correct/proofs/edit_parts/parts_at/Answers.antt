@@ -1,0 +1,8 @@
+use Rattle.std.proofs.Common.{[], map, sym, subst}
+use Rattle.upd_correct.specs.Parts.{Before, Follows}
+use Rattle.upd_correct.proofs.edit_parts.parts_at.Goals as goal
+
+pub loop-cut-init : goal.loop-cut-init
+loop-cut-init c =
+    subst (λ runs. Follows c.args.library.now c.args.set.now (map (λ run. run.items) runs) c.in-Ok.after) (sym c.new-runs.ensures.items)
+    (subst (λ after. Follows c.args.library.now c.args.set.now [] after) (sym c.in-Ok.ensures.ok) Before)

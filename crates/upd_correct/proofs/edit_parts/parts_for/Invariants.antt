@@ -1,0 +1,8 @@
+use Rattle.std.proofs.Common.{map, IfOk}
+use Rattle.upd_correct.specs.EditedText.{HasDecks}
+use Rattle.upd_correct.specs.Parts.{CorrectsInParts}
+use Rattle.upd_correct.proofs.edit_parts.parts_for.Given as goal
+
+abbrev pub invariant-loop-share : goal.invariant-loop-share
+invariant-loop-share l =
+    HasDecks l.text l.decks → IfOk l.whole (λ runs. CorrectsInParts l.library l.set l.text (map (λ run. run.items) runs.items))

@@ -1,0 +1,185 @@
+//! An edit as a list of lines, which can be cut anywhere: up to a cut the edit is done, and after it not yet.
+//!
+//! Nothing is proved of it: each text at a cut is only one on the way, and is led to by a run that is checked.
+
+ghost use Rattle.std.specs.Prelude.{◌≡◌};
+ghost use Rattle.upd_core.specs.Status.{live_of};
+
+use crate::edited_deck::EditedDeck;
+use crate::plan::{Correction, added_decks, corrections_for};
+use crate::script::Segment;
+use std::alloc::{AllocError, Global};
+use upd_compile::text_parts::push_parts;
+use upd_core::{Card, Library, Live, Serial};
+use upd_text::limits::{MAX_RUN_BYTES, MAX_RUN_LINES};
+
+/// The most bytes of a `*DELETE` or `*INSERT`.
+const MAX_DIRECTIVE_BYTES: usize = 48;
+
+/// What an edit does with a line of a deck.
+#[derive(Clone, Copy, PartialEq, Eq)]
+enum Step {
+    Keep,
+    Delete,
+    Insert,
+}
+
+/// A line of a deck before or after an edit.
+#[derive(Drop)]
+pub(crate) struct Piece<'a> {
+    step: Step,
+    /// Whether the run has a directive for it and for the lines after it.
+    begins: bool,
+    text: &'a [u8],
+}
+
+impl<'a> Piece<'a> {
+    /// The number of lines that it adds to a run.
+    fn lines(&self) -> usize {
+        usize::from(self.begins).saturating_add(usize::from(self.step == Step::Insert))
+    }
+
+    /// At most how many bytes it adds to a run.
+    fn bytes(&self) -> usize {
+        let text = if self.step == Step::Insert {
+            self.text.len().saturating_add(1)
+        } else {
+            0
+        };
+        text.saturating_add(usize::from(self.begins) * MAX_DIRECTIVE_BYTES)
+    }
+
+    /// Whether its line is in the text, once it is done or before.
+    fn is_in_text(&self, done: bool) -> bool {
+        match self.step {
+            Step::Keep => true,
+            Step::Delete => !done,
+            Step::Insert => done,
+        }
+    }
+}
+
+/// The lines of an edit: first those of the new decks, so that they can be called, and then those of the held ones.
+pub(crate) fn pieces_of<'a>(
+    alloc: Global,
+    library: &'a Library,
+    live: &Live,
+    decks: &[EditedDeck<'a>],
+) -> Result<Vec<Piece<'a>>, AllocError>
+    requires { live.now ≡ live_of library.now }
+{
+    let mut pieces = Vec::new(alloc);
+    push_added(&mut pieces, &added_decks(alloc, library, decks)?)?;
+    for correction in &corrections_for(alloc, library, live, decks)? {
+        push_correction(&mut pieces, live, correction)?;
+    }
+    Ok(pieces)
+}
+
+/// Appends the lines of new decks.
+fn push_added<'a>(
+    pieces: &mut Vec<Piece<'a>>,
+    decks: &[&EditedDeck<'a>],
+) -> Result<(), AllocError> {
+    for deck in decks {
+        push_lines(pieces, false, &[deck.first])?;
+        push_lines(pieces, false, &deck.lines)?;
+    }
+    Ok(())
+}
+
+/// Appends the lines of a held deck.
+fn push_correction<'a>(
+    pieces: &mut Vec<Piece<'a>>,
+    live: &Live,
+    correction: &Correction<'a>,
+) -> Result<(), AllocError> {
+    for segment in &correction.segments {
+        push_segment(pieces, live, correction.deck, segment)?;
+    }
+    Ok(())
+}
+
+/// Appends the lines of a segment.
+fn push_segment<'a>(
+    pieces: &mut Vec<Piece<'a>>,
+    live: &Live,
+    deck: Serial,
+    segment: &Segment<'a>,
+) -> Result<(), AllocError> {
+    for (i, card) in segment.front.iter().enumerate() {
+        push_card(pieces, live, deck, segment.goes, i == 0, card)?;
+    }
+    let begins = segment.front.is_empty();
+    push_card(pieces, live, deck, segment.goes, begins, segment.last)?;
+    push_lines(pieces, !segment.goes, &segment.lines)
+}
+
+/// Appends the line of a card, if it is active.
+fn push_card<'a>(
+    pieces: &mut Vec<Piece<'a>>,
+    live: &Live,
+    deck: Serial,
+    goes: bool,
+    begins: bool,
+    card: &'a Card,
+) -> Result<(), AllocError> {
+    if live.is_active(deck, card) {
+        pieces.push(Piece {
+            step: if goes { Step::Delete } else { Step::Keep },
+            begins: goes && begins,
+            text: &card.text,
+        })?;
+    }
+    Ok(())
+}
+
+/// Appends lines that are put. The first may need a directive.
+fn push_lines<'a>(
+    pieces: &mut Vec<Piece<'a>>,
+    begins: bool,
+    lines: &[&'a [u8]],
+) -> Result<(), AllocError> {
+    for (i, text) in lines.iter().enumerate() {
+        pieces.push(Piece {
+            step: Step::Insert,
+            begins: begins && i == 0,
+            text,
+        })?;
+    }
+    Ok(())
+}
+
+/// Where an edit is cut, by the number of lines before each cut: what is between two cuts takes at most a run's lines and
+/// bytes, divided by `share`. A run begins with its `*IDENT`, and with a directive for what it continues.
+pub(crate) fn cuts_of(
+    alloc: Global,
+    pieces: &[Piece],
+    share: usize,
+) -> Result<Vec<usize>, AllocError> {
+    let mut cuts = Vec::new(alloc);
+    let (mut lines, mut bytes) = (2, 2 * MAX_DIRECTIVE_BYTES);
+    for (i, piece) in pieces.iter().enumerate() {
+        lines = piece.lines().saturating_add(lines);
+        bytes = piece.bytes().saturating_add(bytes);
+        if lines.saturating_mul(share) > MAX_RUN_LINES
+            || bytes.saturating_mul(share) > MAX_RUN_BYTES
+        {
+            cuts.push(i)?;
+            lines = piece.lines().saturating_add(2);
+            bytes = piece.bytes().saturating_add(2 * MAX_DIRECTIVE_BYTES);
+        }
+    }
+    Ok(cuts)
+}
+
+/// The text of the decks at a cut.
+pub(crate) fn text_at(alloc: Global, pieces: &[Piece], cut: usize) -> Result<Vec<u8>, AllocError> {
+    let mut text = Vec::new(alloc);
+    for (i, piece) in pieces.iter().enumerate() {
+        if piece.is_in_text(i < cut) {
+            push_parts(&mut text, &[piece.text, b"\n"])?;
+        }
+    }
+    Ok(text)
+}

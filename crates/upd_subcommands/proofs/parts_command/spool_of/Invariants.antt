@@ -1,0 +1,12 @@
+use Rattle.std.proofs.Common.{◌≡◌, ◌+◌, map, take}
+use Rattle.std.specs.List.{AllByRecursion}
+use Rattle.upd_wire.specs.Frames.{frames_text}
+use Rattle.upd_subcommands.specs.Parts.{IsAdmitted, frames_from}
+use Rattle.upd_subcommands.proofs.parts_command.spool_of.Given as goal
+
+abbrev pub invariant-loop-run : goal.invariant-loop-run
+invariant-loop-run l = record {
+  next : l.next ≡ l.number + l.run-index;
+  frames : l.spool.items ≡ frames_text (frames_from l.site l.number l.mode (map (λ run. run.items) (take l.run-index l.runs)));
+  admitted : AllByRecursion IsAdmitted (frames_from l.site l.number l.mode (map (λ run. run.items) (take l.run-index l.runs)));
+}
