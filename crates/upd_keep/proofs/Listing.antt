@@ -1,5 +1,5 @@
 -- Reading the tables of runs and of marks: what each text answers, and what is so of it outside of the transaction.
-use Rattle.std.proofs.Common.{◌≡◌, true, List, [], ◌∷◌, map, Ok, IsTrue, refl, ap₂, ◌∙◌}
+use Rattle.std.proofs.Common.{◌≡◌, true, List, [], ◌∷◌, map, Ok, IsTrue, refl, ap, ap₂, ◌∙◌}
 use Rattle.std.specs.Ordering.{ordering_then}
 use Rattle.sqlite_value.specs.declared.value.Value.TheVariants.{Null}
 use Rattle.sqlite_value.specs.Order.{Row}
@@ -14,6 +14,7 @@ use Rattle.upd_sql.specs.LibraryTables.{HoldsTables, ShowsTables}
 use Rattle.upd_sql.specs.Listed.{AreInOrder}
 use Rattle.upd_sql.proofs.CommitLemmas.{holds_begun}
 use Rattle.upd_sql.proofs.Listed.{lists, ordered_as}
+use Rattle.upd_sql.proofs.Typed.{reads_exactly}
 use Rattle.upd_sql.proofs.WholeLemmas.{all_pass, last_order}
 use Rattle.upd_keep.specs.Keeping.{by_key, by_site}
 use Rattle.upd_keep.proofs.ReadTexts as query
@@ -30,6 +31,12 @@ module _ (old new : State) (it : Rows) (h : HoldsTables it old.now) (rows : List
       let found = lists 5 10 refl run_row run_row (stored it) it.runs refl query.all_runs [] query.all_runs_plain query.all_runs_unlisted old new rows shown h
       [] query.all_runs_shown query.all_runs_order _ query.all_runs_is refl refl refl (λ _. true) (λ x. refl) (λ x. refl) in
       (found.0, found.1, ordered_as _ by_key _ it.runs found.0 runs_order (all_pass it.runs) found.2)
+
+  pub runs_turned : Shown query.runs_in_turn [] old new rows → rows ≡ map run_row it.runs
+  runs_turned shown =
+      let found = reads_exactly 5 10 refl run_row (stored it) it.runs refl query.runs_in_turn [] query.runs_in_turn_plain query.runs_in_turn_unlisted old new
+      rows shown h [] query.all_runs_shown _ query.runs_in_turn_is refl refl (λ _. true) (λ x. refl) (λ x. refl) in
+      found ∙ ap (map run_row) (all_pass it.runs)
 
   pub marks_listed : Shown query.all_marks [] old new rows → (us : List MarkRow) × (rows ≡ map mark_row us) × AreInOrder by_site it.settled us
   marks_listed shown =

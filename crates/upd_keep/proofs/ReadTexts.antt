@@ -8,7 +8,7 @@ use Rattle.sqlite_schema.specs.declared.command.Command.TheVariants.{Select}
 use Rattle.sqlite_tied.specs.Compute.{everything}
 use Rattle.sqlite.specs.Listing.{understood, reads_listing}
 use Rattle.sqlite.proofs.Callers.{IsPlain, command_of}
-use Rattle.upd_sqlite.specs.Keyed.{plain_query}
+use Rattle.upd_sqlite.specs.Keyed.{plain_query, row_order}
 use Rattle.upd_sql.specs.Schema.{library_schema}
 use Rattle.upd_keep.specs.declared.run_texts.TheConstants as sql
 
@@ -53,6 +53,23 @@ all_runs_plain = (refl, refl)
 pub all_runs_unlisted : reads_listing library_schema all_runs ≡ false
 unfolding everything
 all_runs_unlisted = refl
+
+abbrev pub runs_in_turn : List ℕ
+runs_in_turn = sql.RUNS_IN_TURN.now
+
+pub runs_in_turn_is : command_of (understood library_schema runs_in_turn)
+    ≡ Select (record { lets = []; body = plain_query 10 [] all_runs_shown row_order })
+    (codes "site" ∷ codes "num" ∷ codes "mode" ∷ codes "body" ∷ codes "accepted" ∷ codes "reply" ∷ [])
+unfolding understood everything
+runs_in_turn_is = refl
+
+pub runs_in_turn_plain : IsPlain (understood library_schema runs_in_turn)
+unfolding understood everything
+runs_in_turn_plain = (refl, refl)
+
+pub runs_in_turn_unlisted : reads_listing library_schema runs_in_turn ≡ false
+unfolding everything
+runs_in_turn_unlisted = refl
 
 abbrev pub all_marks : List ℕ
 all_marks = sql.ALL_MARKS.now

@@ -61,7 +61,10 @@ fn runs_in<S: Alter>(tx: &mut Transaction<'_, S>, alloc: Global) -> Result<Vec<R
     all_of(tx, alloc, run_texts::ALL_RUNS)
 }
 
-fn marks_in<S: Alter>(tx: &mut Transaction<'_, S>, alloc: Global) -> Result<Vec<MarkRow>, Error>
+pub(crate) fn marks_in<S: Alter>(
+    tx: &mut Transaction<'_, S>,
+    alloc: Global,
+) -> Result<Vec<MarkRow>, Error>
     ensures same_reference { tx.new.conn.ghost_name ≡ tx.old.conn.ghost_name }
     ensures looks { Looks (λ it found. AreInOrder by_site it.settled found.items)
         (state S.Store tx.old.conn.now) (state S.Store tx.new.conn.now) result }

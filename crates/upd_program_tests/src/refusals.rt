@@ -53,6 +53,7 @@ pub const COMMANDS: &[(&str, &[&str])] = &[
     ("correct", &["A"]),
     ("try", &["full"]),
     ("source", &["A"]),
+    ("replay", &[]),
     ("migrate", &[]),
 ];
 
