@@ -108,7 +108,8 @@ fn a_changed_row_of_the_library_is_found(rt: HostRuntime) -> Result<(), Fail> {
 }
 
 /// One byte of the reply to run 4 is another: `\"at\":2`.
-const OTHER_BYTE: &str = "UPDATE runs SET reply = x'7b226174223a322c226661756c74223a392c226d6f6465223a2266756c6c222c226e616d65223a22546578744e6f\
+const OTHER_BYTE: &str =
+    "UPDATE runs SET reply = x'7b226174223a322c226661756c74223a392c226d6f6465223a2266756c6c222c226e616d65223a22546578744e6f\
 7768657265222c2272756e223a342c2273697465223a224c594f4e222c227374617465223a2272656675736564227d' WHERE num = 4";
 
 #[test]
