@@ -25,6 +25,7 @@ use Rattle.upd_subcommands.specs.Streams.{Stream, after, before}
 use Rattle.upd_subcommands.specs.Reporting.{Writes}
 use Rattle.upd_subcommands.specs.Trial.{trial_named}
 use Rattle.upd_cli.specs.Opened.{BacksUp, Closes, MakesLibrary, MigratesLibrary}
+use Rattle.upd_cli.specs.Replayed.{IsReplayed}
 use Rattle.upd_cli.specs.Stored.{LeavesList}
 use Rattle.upd_cli.specs.Works.{Leaves, ending_of}
 use Rattle.upd_cli.specs.declared.run_queries.Stored.{Stored}
@@ -32,7 +33,7 @@ use Rattle.upd_cli.specs.declared.run_queries.Stored.TheVariants as stored
 use Rattle.upd_words.specs.Words.{IsAskedFor, IsUnasked}
 use Rattle.upd_words.specs.declared.words.Command.{Command}
 use Rattle.upd_words.specs.declared.words.Request.{Request}
-use Rattle.upd_words.specs.declared.words.Request.TheVariants.{Trial, Init, Library, Runs, Sites, Backup, Examine, Migrate, Explain, Shown, Unread, NoAddress}
+use Rattle.upd_words.specs.declared.words.Request.TheVariants.{Trial, Init, Library, Runs, Sites, Backup, Examine, Replay, Migrate, Explain, Shown, Unread, NoAddress}
 
 -- the line that comes first where the log beside a file has frames
 abbrev pub log_line : Bool → List ℕ
@@ -121,6 +122,7 @@ module _ {S D : Type 0} {g : DiskGhosts D} (meaning : Ghosts S) (conn_of : S →
   IsDone (Sites file) status = IsListed g held stored.Sites (ending_of status output faults)
   IsDone (Backup file copy) status = IsSilent × IsBackedUp g held status (before faults) (after faults)
   IsDone (Examine file) status = IsExamined (file_state {g = g}) held (ending_of status output faults)
+  IsDone (Replay file) status = IsReplayed g held (ending_of status output faults)
   IsDone (Migrate file) status = IsSilent × IsMigrated g held status (before faults) (after faults)
   IsDone (Explain fault) status = IsExplained fault.now (ending_of status output faults)
   IsDone (Shown text) status = ((status ≡ 0) ⊎ (status ≡ 3)) × IsShown (string_bytes text) (ending_of status output faults)

@@ -1,4 +1,5 @@
 pub mod Opened
 pub mod Works
 pub mod Stored
+pub mod Replayed
 pub mod Commands

@@ -8,6 +8,7 @@ ghost use Rattle.upd_subcommands.specs.Streams.{TakesFront, stream};
 use crate::desk_work::{FileRows, on_library};
 use crate::examined::report_on;
 use crate::library_file::{backup_file, init_file, migrate_file};
+use crate::replay_report::replay_on;
 use crate::run_queries::{Stored, list_on};
 use sqlite::{FileFrom, Start, Unknown};
 use sqlite_disk::Disk;
@@ -95,6 +96,7 @@ fn carry_out<St: Start, R: Read, W: Write, E: Write>(
         }
         Request::Backup { file, copy } => finish(backup_file(rt, file, start, copy), faults),
         Request::Examine(file) => report_on(rt, file, start, output, faults),
+        Request::Replay(file) => replay_on(rt, file, start, output, faults),
         Request::Migrate(file) => finish(migrate_file(rt, file, start), faults),
         Request::Explain(fault) => carry_out_explaining(fault, output, faults),
         Request::Shown(text) => finish(write_out(output, text.as_bytes()), faults),

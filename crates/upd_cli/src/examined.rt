@@ -63,7 +63,12 @@ fn log_line(log: bool) -> &'static [u8]
 }
 
 /// Writes what comes first and the line of a sound library to the output, and returns the exit status.
-fn write_sound<W: Write, E: Write>(first: &[u8], line: &[u8], output: &mut W, faults: &mut E) -> u8
+pub(crate) fn write_sound<W: Write, E: Write>(
+    first: &[u8],
+    line: &[u8],
+    output: &mut W,
+    faults: &mut E,
+) -> u8
     ensures reported { (ended : Result ℕ Fault) × Writes 0 (first.now ++ line.now) ended (W.contents output.old) (W.contents output.new)
         × IsEndOf ended result (E.contents faults.old) (E.contents faults.new) }
     ensures status { (result ≡ 0) ⊎ (result ≡ 3) }
@@ -76,7 +81,7 @@ fn write_sound<W: Write, E: Write>(first: &[u8], line: &[u8], output: &mut W, fa
 }
 
 /// Writes what comes first and what is wrong with a library to the fault stream, and returns the exit status.
-fn write_unsound<E: Write>(first: &[u8], lines: &[u8], faults: &mut E) -> u8
+pub(crate) fn write_unsound<E: Write>(first: &[u8], lines: &[u8], faults: &mut E) -> u8
     ensures reported { IsReported 1 (first.now ++ lines.now) result (E.contents faults.old) (E.contents faults.new) }
     ensures status { (result ≡ 1) ⊎ (result ≡ 3) }
 {

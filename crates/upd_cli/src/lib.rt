@@ -9,6 +9,7 @@ mod command;
 mod desk_work;
 mod examined;
 mod library_file;
+mod replay_report;
 mod run_queries;
 
 pub use command::{run_command, run_command_from};

@@ -3,3 +3,4 @@ mod VersionRows
 mod Copies
 mod SameLength
 mod Reports
+mod ReplayLemmas

@@ -2,7 +2,7 @@
 
 use upd_records::{MarkRow, RunRow};
 
-/// The stored runs by site and number, and the marks by site.
+/// Stored runs, in the order of the call that reads them, and the marks by site.
 #[derive(Debug, Drop)]
 pub struct Kept {
     pub runs: Vec<RunRow>,

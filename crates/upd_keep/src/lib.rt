@@ -1,4 +1,5 @@
-//! What whoever keeps a library asks of its file: the stored runs, the sites, a whole copy, and whether it is sound.
+//! What whoever keeps a library asks of its file: the stored runs, the sites, a whole copy, whether it is sound, and
+//! whether its stored runs make it again.
 //!
 //! Lists are read in a transaction that is rolled back. Nothing changes.
 #![tactic(auto)]
@@ -8,12 +9,17 @@ mod copying;
 mod file_examination;
 mod kept;
 mod looking_at;
+mod other_tables;
+mod replaying;
+mod run_history;
 mod run_reads;
 mod situation;
+mod stored_replies;
 mod versions;
 
 pub use copying::{backup, whole_copy};
 pub use file_examination::{Examined, Report, examine, examine_tables};
 pub use kept::Kept;
+pub use replaying::{Replayed, replay_tables};
 pub use run_reads::{runs_text, sites_text, stored_kept};
 pub use situation::Situation;

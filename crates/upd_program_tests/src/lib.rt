@@ -30,6 +30,8 @@ mod lone_logs;
 #[cfg(test)]
 mod refusals;
 #[cfg(test)]
+mod replayed_files;
+#[cfg(test)]
 mod served_address;
 #[cfg(test)]
 mod site_commands;

@@ -54,6 +54,7 @@ pub const COMMANDS: &[(&str, &[&str])] = &[
     ("correct-parts", &["A", "LYON", "1", "full"]),
     ("try", &["full"]),
     ("source", &["A"]),
+    ("replay", &[]),
     ("migrate", &[]),
 ];
 

@@ -14,7 +14,7 @@ use Rattle.upd_text.specs.declared.fault.FaultKind.TheVariants.{NoMemory}
 use Rattle.std.specs.Net.Grammar.{IsSocketText}
 use Rattle.upd_words.specs.Operands.{IsNoAddress, card_read, name_read, number_read}
 use Rattle.upd_words.specs.declared.words.Request.{Request}
-use Rattle.upd_words.specs.declared.words.Request.TheVariants.{Trial, Init, Library, Runs, Sites, Backup, Examine, Migrate, Explain, Shown, Unread, NoAddress}
+use Rattle.upd_words.specs.declared.words.Request.TheVariants.{Trial, Init, Library, Runs, Sites, Backup, Examine, Replay, Migrate, Explain, Shown, Unread, NoAddress}
 use Rattle.upd_words.specs.declared.words.Command.{Command}
 use Rattle.upd_words.specs.declared.words.Command.TheVariants.{Run, Settle, Spool, Serve, Correct, CorrectParts, Try, Ask}
 use Rattle.upd_words.specs.declared.querying.Query.{Query}
@@ -66,6 +66,7 @@ upd_commands =
     ∷ (codes "sites", word_of (codes "FILE") ∷ [])
     ∷ (codes "backup", word_of (codes "FILE") ∷ word_of (codes "COPY") ∷ [])
     ∷ (codes "examine", word_of (codes "FILE") ∷ [])
+    ∷ (codes "replay", word_of (codes "FILE") ∷ [])
     ∷ (codes "migrate", word_of (codes "FILE") ∷ [])
     ∷ (codes "explain", word_of (codes "FAULT") ∷ [])
     ∷ []
@@ -83,7 +84,8 @@ IsOther name (other ∷ others) = (name ≢ other) × IsOther name others
 -- the commands that do not use the desk of a library, and `serve`
 abbrev pub file_commands : List Text
 file_commands =
-    codes "trial" ∷ codes "init" ∷ codes "serve" ∷ codes "runs" ∷ codes "sites" ∷ codes "backup" ∷ codes "examine" ∷ codes "migrate" ∷ codes "explain" ∷ []
+    codes "trial" ∷ codes "init" ∷ codes "serve" ∷ codes "runs" ∷ codes "sites" ∷ codes "backup" ∷ codes "examine" ∷ codes "replay" ∷ codes "migrate"
+    ∷ codes "explain" ∷ []
 
 -- those that use it for more than a text about the library, but for `serve`
 abbrev pub desk_commands : List Text
@@ -185,6 +187,7 @@ request_name (Runs file) = codes "runs"
 request_name (Sites file) = codes "sites"
 request_name (Backup file copy) = codes "backup"
 request_name (Examine file) = codes "examine"
+request_name (Replay file) = codes "replay"
 request_name (Migrate file) = codes "migrate"
 request_name (Explain fault) = codes "explain"
 request_name (NoAddress word) = codes "serve"
@@ -199,6 +202,7 @@ AreOperands rows (Runs file) = file.now ≡ operand_in (codes "FILE") rows
 AreOperands rows (Sites file) = file.now ≡ operand_in (codes "FILE") rows
 AreOperands rows (Backup file copy) = (file.now ≡ operand_in (codes "FILE") rows) × (copy.now ≡ operand_in (codes "COPY") rows)
 AreOperands rows (Examine file) = file.now ≡ operand_in (codes "FILE") rows
+AreOperands rows (Replay file) = file.now ≡ operand_in (codes "FILE") rows
 AreOperands rows (Migrate file) = file.now ≡ operand_in (codes "FILE") rows
 AreOperands rows (Explain fault) = fault.now ≡ operand_in (codes "FAULT") rows
 AreOperands rows (NoAddress word) = (word.now ≡ operand_in (codes "ADDRESS") rows) × IsNoAddress word.now

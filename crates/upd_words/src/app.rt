@@ -6,7 +6,7 @@ ghost use Rattle.clap.specs.declared.builder.command.Command.TheViews.{out-Comma
 ghost use Rattle.clap.specs.Simple.{new_app};
 ghost use Rattle.upd_words.specs.Words.{app_with, command_shape, operand_rule, upd_app, upd_commands, upd_top};
 
-use crate::keeping::{EXAMINE, EXPLAIN, MIGRATE, seventh_commands};
+use crate::keeping::{EXAMINE, EXPLAIN, MIGRATE, REPLAY, seventh_commands};
 use clap::builder::ValueParser;
 use clap::{Arg, ArgAction, Command};
 use std::alloc::{AllocError, Global};
@@ -57,6 +57,7 @@ pub(crate) fn program<'a>(alloc: Global) -> Result<Command<'a>, AllocError>
     );
     let app = seventh_commands(alloc)?;
     let app = with_command(app, alloc, "examine", EXAMINE, &[FILE])?;
+    let app = with_command(app, alloc, "replay", REPLAY, &[FILE])?;
     let app = with_command(app, alloc, "migrate", MIGRATE, &[FILE])?;
     with_command(app, alloc, "explain", EXPLAIN, &[FAULT])
 }

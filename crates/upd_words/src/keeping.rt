@@ -175,6 +175,24 @@ Example, after `upd init library.db`:
   upd examine library.db",
 };
 
+pub(crate) const REPLAY: Text = Text {
+    about: "Hands the stored runs in again, at an empty library, and compares",
+    more: "\
+Reads nothing. The stored runs are handed in at an empty library in memory, in the order in which they
+were stored. Where each reply and all rows are those of FILE, writes a line with the number of runs.
+Else standard error says in a line which run or table differs first. Changes nothing; an empty log may
+be left beside FILE. Where a site has settled runs, nothing can be compared.
+
+A library that was migrated may have refusals by older rules: it differs at the first of them.
+
+Exit status: 0 the same library; 1 another one, or runs are settled; 2 the command line can't be read;
+3 out of memory, or the library or a write failed.
+
+Example, after `upd init library.db`:
+  printf '*DECK A\\nONE\\n' | upd run library.db LYON 1 full
+  upd replay library.db",
+};
+
 pub(crate) const MIGRATE: Text = Text {
     about: "Migrates the file of an older schema to the present schema",
     more: "\

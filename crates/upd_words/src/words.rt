@@ -35,6 +35,8 @@ pub enum Request<'a> {
     Backup { file: &'a str, copy: &'a str },
     /// `examine FILE`
     Examine(&'a str),
+    /// `replay FILE`
+    Replay(&'a str),
     /// `migrate FILE`
     Migrate(&'a str),
     /// `explain FAULT`
@@ -120,6 +122,7 @@ fn read_command<'a>(name: &str, operands: &ArgMatches<'a>) -> Result<Request<'a>
             copy: word(operands, "COPY"),
         }),
         "examine" => Ok(Request::Examine(word(operands, "FILE"))),
+        "replay" => Ok(Request::Replay(word(operands, "FILE"))),
         "migrate" => Ok(Request::Migrate(word(operands, "FILE"))),
         "explain" => Ok(Request::Explain(word(operands, "FAULT"))),
         _ => match read_desk_command(name, operands) {

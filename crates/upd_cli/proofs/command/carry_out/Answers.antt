@@ -88,6 +88,9 @@ returns-in-Backup-clause-done g c =
 pub returns-in-Examine-clause-done : goal.returns-in-Examine-clause-done
 returns-in-Examine-clause-done g c = done_as c.args.request.now _ _ c.in-Examine.is c.report_on.ensures.reported
 
+pub returns-in-Replay-clause-done : goal.returns-in-Replay-clause-done
+returns-in-Replay-clause-done g c = done_as c.args.request.now _ _ c.in-Replay.is c.replay_on.ensures.reported
+
 pub returns-in-Migrate-clause-done : goal.returns-in-Migrate-clause-done
 returns-in-Migrate-clause-done g c =
     done_as c.args.request.now _ _ c.in-Migrate.is (
