@@ -71,6 +71,10 @@ pub all_runs : Reads sql.ALL_RUNS.now 10 [] six runs_order
 unfolding understood everything
 all_runs = record { names = _; is = refl; plain = (refl, refl); unlisted = refl }
 
+pub runs_in_turn : Reads sql.RUNS_IN_TURN.now 10 [] six row_order
+unfolding understood everything
+runs_in_turn = record { names = _; is = refl; plain = (refl, refl); unlisted = refl }
+
 abbrev pub marks_order : List (Term × Key)
 marks_order = (col 1 1, ascending Binary) ∷ []
 

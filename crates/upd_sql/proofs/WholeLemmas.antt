@@ -33,7 +33,8 @@ use Rattle.upd_sql.specs.LibraryTables.{HoldsTables}
 use Rattle.upd_sql.proofs.Listed.{lists, ordered_as}
 use Rattle.upd_sql.proofs.Bare.{is_bare}
 use Rattle.upd_sql.proofs.ReadTexts.{Reads, two, three, four, five, six, runs_order, marks_order}
-use Rattle.upd_sql.proofs.ReadTexts.{all_idents, all_cards, all_entries, all_targets, all_states, all_counts, all_runs, all_marks}
+use Rattle.upd_sql.proofs.ReadTexts.{all_idents, all_cards, all_entries, all_targets, all_states, all_counts, all_runs, all_marks, runs_in_turn}
+use Rattle.upd_sql.proofs.Typed.{reads_exactly}
 use Rattle.upd_sql.specs.declared.texts.TheConstants as sql
 
 -- ---- rows one after another
@@ -126,6 +127,11 @@ module _ (old new : State) (it : Rows) (h : HoldsTables it old.now) (rows : List
 
   pub runs_listed : Answers sql.ALL_RUNS.now run_row by_key it.runs
   runs_listed = whole 5 10 refl run_row it.runs refl _ six runs_order by_key all_runs refl refl (λ x. refl) runs_up
+
+  pub runs_turned : Shown sql.RUNS_IN_TURN.now [] old new rows → rows ≡ map run_row it.runs
+  runs_turned shown =
+      reads_exactly 5 10 refl run_row (stored it) it.runs refl _ [] old new rows shown h [] six runs_in_turn refl refl (λ _. true) (λ x. refl) (λ x. refl)
+      ∙ ap (map run_row) (all_pass it.runs)
 
   pub marks_listed : Answers sql.ALL_MARKS.now mark_row by_site it.settled
   marks_listed = whole 8 16 refl mark_row it.settled refl _ two marks_order by_site all_marks refl refl (λ x. refl) marks_up

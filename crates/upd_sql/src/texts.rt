@@ -107,6 +107,9 @@ pub(crate) const ALL_COUNTS: &str = "SELECT kind, target, deck, n FROM counts";
 pub(crate) const ALL_RUNS: &str =
     "SELECT site, num, mode, body, accepted, reply FROM runs ORDER BY site, num";
 
+pub(crate) const RUNS_IN_TURN: &str =
+    "SELECT site, num, mode, body, accepted, reply FROM runs ORDER BY rowid";
+
 pub(crate) const ALL_MARKS: &str = "SELECT site, mark FROM settled ORDER BY site";
 
 pub(crate) const RUN_OF_KEY: &str =

@@ -121,6 +121,17 @@ pub fn runs_in<S: Alter>(tx: &mut Transaction<'_, S>, alloc: Global) -> Result<V
     all_of(tx, alloc, texts::ALL_RUNS)
 }
 
+/// The stored runs in the order in which they were stored, inside a transaction.
+pub fn runs_in_turn<S: Alter>(
+    tx: &mut Transaction<'_, S>,
+    alloc: Global,
+) -> Result<Vec<RunRow>, Error>
+    ensures { Inside (state S.Store) (Looks (λ it found. found.items ≡ it.runs)) tx.old.conn tx.new.conn result }
+{
+    let rows = rows_of(tx, texts::RUNS_IN_TURN, &[])?;
+    each(alloc, &rows)
+}
+
 /// The settled marks by site, inside a transaction.
 pub fn marks_in<S: Alter>(tx: &mut Transaction<'_, S>, alloc: Global) -> Result<Vec<MarkRow>, Error>
     ensures { Inside (state S.Store) (Looks (λ it found. AreInOrder by_site it.settled found.items)) tx.old.conn tx.new.conn result }
