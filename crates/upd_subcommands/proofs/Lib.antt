@@ -5,4 +5,3 @@ pub mod ReportingLemmas
 pub mod QueryAnswers
 pub mod FailingLemmas
 pub mod TriedLemmas
-pub mod LineLemmas
