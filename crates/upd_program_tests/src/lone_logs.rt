@@ -50,7 +50,7 @@ fn a_log_is_kept_until_its_file_is_back(rt: HostRuntime) -> Result<(), Fail> {
     keeps_log(&rt, &file)?;
     holds("no file is made", !fs::exists(&rt, file.as_str())?)?;
     fs::rename(&rt, moved.as_str(), file.as_str())?;
-    take_all(&rt, &file, &[Step::Writes("sites", &[], "LYON 3 3 4\n")])?;
+    take_all(&rt, &file, &[Step::Writes("sites", &[], "LYON 3 3 4 0\n")])?;
     remove(&rt, &file)
 }
 

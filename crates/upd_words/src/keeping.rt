@@ -115,7 +115,8 @@ const SITES: Text = Text {
     about: "Lists the sites, each with its settled mark and its next number",
     more: "\
 Reads nothing, and writes a line for each site that has a stored run or has settled: the site, its
-settled mark or 0, its greatest number, and the next one that is free. Changes nothing.
+settled mark or 0, its greatest number, the next one that is free, and how many bytes its stored
+runs and their replies have. Changes nothing.
 
 Exit status: 0 done; 2 the command line can't be read; 3 out of memory, or the library or a write
 failed. The fault is one line on standard error.
