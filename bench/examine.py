@@ -42,12 +42,13 @@ def examined(upd, file):
 
 
 def counts_line(file):
-    """The line of a sound library: the numbers of held decks, of cards and of stored runs, counted in its tables."""
+    """The line of a sound library: the numbers of held decks, of cards, of stored runs and of bytes of replies, counted in its tables, and its size."""
     db = sqlite3.connect(file)
     texts = ["idents WHERE held = 1 AND kind <> 0", "cards", "runs"]
     decks, cards, runs = (db.execute(f"SELECT count(*) FROM {text}").fetchone()[0] for text in texts)
+    replies = db.execute("SELECT coalesce(sum(length(reply)), 0) FROM runs").fetchone()[0]
     db.close()
-    return f"sound: decks {decks}, cards {cards}, runs {runs}\n"
+    return f"sound: decks {decks}, cards {cards}, runs {runs}, replies {replies}, file {Path(file).stat().st_size}\n"
 
 
 class Writer:

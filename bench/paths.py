@@ -1,6 +1,7 @@
 """What can be at a path that `upd examine` gets: each situation of docs/protocol.md, rule 10.88, and a log beside a library."""
 
 import os
+import re
 import shutil
 import sqlite3
 import subprocess
@@ -51,8 +52,13 @@ class Paths:
 
     def is_sound(self, what, file, before=""):
         """A library is sound: one deck, two cards, one run."""
-        got = said(self.upd, file)
-        self.judge(got == (0, f"{before}sound: decks 1, cards 2, runs 1\n", ""), what, got)
+        self.judge_sound(what, file, f"{before}sound: decks 1, cards 2, runs 1")
+
+    def judge_sound(self, what, file, line):
+        """A library is sound, with this line, and then the bytes of its replies and of its file."""
+        status, output, faults = said(self.upd, file)
+        size = re.fullmatch(re.escape(line) + r", replies [1-9]\d*, file (\d+)\n", output)
+        self.judge(status == 0 and size and int(size[1]) == Path(file).stat().st_size and not faults, what, (status, output, faults))
 
     def judge(self, right, what, got):
         self.count += 1
@@ -105,8 +111,7 @@ def try_use(paths):
         spool.stdout.readline()
         paths.is_said(file, "it is in use")
         spool.stdin.close()
-    got = said(paths.upd, file)
-    paths.judge(got == (0, "sound: decks 2, cards 4, runs 2\n", ""), "after the spool", got)
+    paths.judge_sound("after the spool", file, "sound: decks 2, cards 4, runs 2")
 
 
 def try_log(paths):

@@ -10,8 +10,8 @@ passed.
 
 import argparse
 import json
+import re
 import resource
-import select
 import shutil
 import socket
 import statistics
@@ -33,6 +33,7 @@ def free_port():
 
 PORT = free_port()
 RUN = b"*DECK A/B\nONE\nTWO\nTHREE\n"
+LINE = re.compile(r"upd: \S+ \S+ \S+ (\d+|-) (\d\d\d|-) [A-Za-z]+ \d+ \d+ \d+ms")
 bad = 0
 
 
@@ -47,10 +48,14 @@ class Server:
     """`upd serve` for `count` connections, with the processor time that it took."""
 
     def __init__(self, upd, file, count):
-        self.process = subprocess.Popen([upd, "serve", file, f"127.0.0.1:{PORT}", str(count)], stderr=subprocess.PIPE)
+        self.log = Path(file).parent / "serve.log"
+        with self.log.open("wb") as output:
+            self.process = subprocess.Popen([upd, "serve", file, f"127.0.0.1:{PORT}", str(count)], stderr=output)
         self.count = count
-        told, _, _ = select.select([self.process.stderr], [], [], 30)
-        line = self.process.stderr.readline().decode() if told else "nothing in 30 s"
+        end = time.monotonic() + 30
+        while not self.log.read_bytes().endswith(b"\n") and time.monotonic() < end:
+            time.sleep(0.01)
+        line = self.log.read_text() or "nothing in 30 s"
         if line != f"upd: listening on 127.0.0.1:{PORT}\n":
             self.process.kill()
             sys.exit(f"upd serve says, in place of where it listens: {line!r}")
@@ -63,13 +68,14 @@ class Server:
 
     def __exit__(self, *_):
         try:
-            said = self.process.communicate(timeout=20)[1]
-            status = self.process.returncode
+            status = self.process.wait(timeout=20)
         except subprocess.TimeoutExpired:
             self.process.kill()
-            said, status = self.process.communicate()[1], "still there"
+            status = "still there"
         check(f"upd serve ends after {self.count} connections with status", status, 0)
-        check("upd serve says, after where it listens", said.decode(), "")
+        lines = self.log.read_text().splitlines()[1:]
+        check("connections with a line of the form that protocol.md has", sum(map(bool, map(LINE.fullmatch, lines))), self.count)
+        check("other lines", len(lines) - self.count, 0)
         time.sleep(0.05)
 
 

@@ -23,7 +23,8 @@ use upd_words::{Request, read_words};
 /// Carries out the command line `words`, the program's own name first, and returns the exit status: 0 where all is
 /// done; 1 for a refusal, whose line goes to `faults`, or to the output where the desk refuses the run of `run`; 2
 /// where the words are not a command line, and `faults` says why; 3 where memory, the store, a read or a write failed.
-/// `try` writes its warnings to `faults`, whatever the status is, and `serve` where it listens.
+/// `try` writes its warnings to `faults`, whatever the status is, and `serve` where it listens and a line for each
+/// connection.
 pub fn run_command<S: AsStr, R: Read, W: Write, E: Write>(
     rt: &HostRuntime,
     words: &[S],

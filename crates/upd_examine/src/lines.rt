@@ -21,10 +21,10 @@ impl Findings {
         }
     }
 
-    /// Adds a line, while there are fewer than a hundred.
+    /// Adds a line, while there are fewer than a hundred. What is not printable ASCII becomes `?`.
     pub fn add(&mut self, line: &[u8]) -> Result<(), AllocError> {
         if self.lines < MAX_LINES {
-            self.text.extend_from_slice(line)?;
+            push_printed(&mut self.text, line)?;
             self.text.push(b'\n')?;
             self.lines += 1;
         }
@@ -48,4 +48,14 @@ impl Findings {
         }
         Vec::from_slice(alloc, b"rows are not those of a sound library\n")
     }
+}
+
+fn push_printed(text: &mut Vec<u8>, line: &[u8]) -> Result<(), AllocError> {
+    for byte in line {
+        match byte {
+            b' '..=b'~' => text.push(*byte)?,
+            _ => text.push(b'?')?,
+        }
+    }
+    Ok(())
 }

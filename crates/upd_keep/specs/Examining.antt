@@ -1,6 +1,6 @@
 -- What is said of a file that is examined.
-use Rattle.std.specs.Prelude.{◌≡◌, ◌⊎◌, ℕ, List, ◌++◌, Bool, true, false, ◌&&◌, codes, decimal, length, Result, Ok, Err, IfErr, IfOk, IsTrue}
-use Rattle.std.specs.List.{count_by}
+use Rattle.std.specs.Prelude.{◌≡◌, ◌⊎◌, ℕ, List, [], ◌∷◌, Bool, true, false, ◌&&◌, codes, decimal, length, Result, Ok, Err, IfErr, IfOk, IsTrue}
+use Rattle.std.specs.List.{concat, count_by, fold}
 use Rattle.sqlite_disk.specs.Disk.{MoreFaults}
 use Rattle.sqlite_disk.specs.declared.Disk.{Ghosts}
 use Rattle.sqlite_disk.specs.declared.Files.{Files}
@@ -18,7 +18,7 @@ use Rattle.upd_text.specs.declared.fault.Fault.{Fault}
 use Rattle.upd_core.specs.Library.{is_deck_kind}
 use Rattle.upd_core.specs.declared.ident.Ident.{Ident}
 use Rattle.upd_examine.specs.Findings.{AreSoundRows}
-use Rattle.upd_records.specs.Rows.{Rows}
+use Rattle.upd_records.specs.Rows.{Rows, RunView}
 use Rattle.upd_row_store.specs.Assembling.{AreRowsOf}
 use Rattle.upd_row_store.specs.Keeping.{IsLost}
 use Rattle.upd_row_store.specs.Tables.{AreRead}
@@ -27,6 +27,7 @@ use Rattle.upd_sql.specs.LibraryTables.{ShowsTables}
 use Rattle.upd_sql.specs.Schema.{library_schema, meta}
 use Rattle.upd_sqlite.specs.Steps.{Steps}
 use Rattle.upd_sqlite.specs.Stored.{HasRows}
+use Rattle.upd_views.specs.SiteLines.{both}
 use Rattle.upd_keep.specs.Keeping.{AreKept}
 use Rattle.upd_keep.specs.declared.all_rows.AllRows.{AllRows}
 use Rattle.upd_keep.specs.declared.file_examination.Examined.{Examined}
@@ -50,25 +51,26 @@ pub record AreAllRows (rows : Rows) (all : AllRows) : Type 0 where
   pub states : AreRead rows all.states
   pub kept : AreKept rows all.kept
 
--- the rows that were read of tables are those of a sound, whole library
-abbrev pub AreSoundTables : Rows → Type 0
-AreSoundTables rows = (all : AllRows) × AreAllRows rows all × AreSoundRows all.library all.states all.kept.runs.items all.kept.marks.items
-
 -- whether an ident is a deck, common or not, that is not purged
 abbrev pub is_held_deck : Ident → Bool
 is_held_deck i = i.held && is_deck_kind i.kind
 
--- the line of a sound library with these numbers of decks, cards and stored runs
-abbrev pub sound_line : ℕ → ℕ → ℕ → List ℕ
-sound_line decks cards runs = codes "sound: decks " ++ decimal decks ++ codes ", cards " ++ decimal cards ++ codes ", runs " ++ decimal runs ++ codes "\n"
+-- how many bytes the replies of stored runs have, or 2^64 - 1 where they have more
+abbrev pub reply_bytes : List RunView → ℕ
+reply_bytes runs = fold (λ count r. both count (length r.reply)) 0 runs
 
--- the line of a sound library with these tables
-abbrev pub sound_line_of : Rows → List ℕ
-sound_line_of rows = sound_line (count_by is_held_deck rows.idents) (length rows.cards) (length rows.runs)
+-- the line of a sound library with these numbers of decks, cards and stored runs, and of bytes of the replies and of the file
+abbrev pub sound_line : ℕ → ℕ → ℕ → ℕ → ℕ → List ℕ
+sound_line decks cards runs replies size =
+    concat (codes "sound: decks " ∷ decimal decks ∷ codes ", cards " ∷ decimal cards ∷ codes ", runs " ∷ decimal runs ∷ codes ", replies " ∷ decimal replies
+    ∷ codes ", file " ∷ decimal size ∷ codes "\n" ∷ [])
 
--- what was found is so of these tables
+-- What was found is so of these tables: the rows that were read of them are those of a sound, whole library, and its line has their numbers, or they are not.
+-- The size of the file is what the system says.
 abbrev pub IsFoundIn : Rows → Examined → Type 0
-IsFoundIn rows (Sound line) = AreSoundTables rows × (line.items ≡ sound_line_of rows)
+IsFoundIn rows (Sound line) =
+    (all : AllRows) × AreAllRows rows all × AreSoundRows all.library all.states all.kept.runs.items all.kept.marks.items
+    × ((size : ℕ) × (line.items ≡ sound_line (count_by is_held_deck rows.idents) (length rows.cards) (length rows.runs) (reply_bytes all.kept.runs.items) size))
 IsFoundIn rows (Unsound lines) = (all : AllRows) × AreAllRows rows all × (¬ AreSoundRows all.library all.states all.kept.runs.items all.kept.marks.items)
 
 -- Calls that only read: a library that is committed stays, also after a crash.

@@ -1,12 +1,13 @@
 //! Whether what is at a path is a sound library.
-ghost use Rattle.std.specs.Prelude.{◌≡◌, true, false, IfErr, IfOk};
+ghost use Rattle.std.specs.Prelude.{◌≡◌, ◌++◌, true, false, decimal, IfErr, IfOk, OnOk};
 ghost use Rattle.std.specs.List.{count_by};
 ghost use Rattle.sqlite.specs.Files.{file_state};
 ghost use Rattle.sqlite.specs.Held.{state};
 ghost use Rattle.sqlite_std_file.specs.File.{IsFresh};
 ghost use Rattle.sqlite_wal.specs.Files.{image_at};
 ghost use Rattle.upd_records.specs.Rows.{Rows};
-ghost use Rattle.upd_keep.specs.Examining.{AreAllRows, Examines, ExaminesFile, FailsToOpen, IsFoundIn, IsOther, ReportsOn, is_held_deck, is_told, sound_line};
+ghost use Rattle.upd_keep.specs.Examining.{AreAllRows, Examines, ExaminesFile, FailsToOpen, IsFoundIn, IsOther, ReportsOn};
+ghost use Rattle.upd_keep.specs.Examining.{is_held_deck, is_told, reply_bytes, sound_line};
 ghost use Rattle.upd_store.specs.Faults.{kind_for};
 ghost use Rattle.upd_text.specs.declared.fault.FaultKind.TheVariants.{NoMemory, Store};
 
@@ -17,8 +18,11 @@ use itoa::Buffer;
 use sqlite::{Connection, Error, ErrorCode, FileFrom, Start};
 use sqlite_disk::Disk;
 use std::alloc::{AllocError, Global};
+use std::fs;
+use std::os::unix::fs::MetadataExt;
 use upd_core::Ident;
 use upd_examine::findings;
+use upd_records::RunRow;
 use upd_sqlite::Rising;
 use upd_store::{SqlStore, fault_of, has_frames, store_at};
 use upd_text::{Fault, FaultKind};
@@ -26,7 +30,7 @@ use upd_text::{Fault, FaultKind};
 /// What was found in the tables of a library.
 #[derive(Debug, Drop)]
 pub enum Examined {
-    /// Nothing is wrong. The line has the numbers of decks, cards and stored runs.
+    /// Nothing is wrong. The line has the numbers of decks, cards and stored runs, and of bytes of replies and file.
     Sound(Vec<u8>),
     /// What is wrong, a line each.
     Unsound(Vec<u8>),
@@ -42,8 +46,13 @@ pub enum Report {
 }
 
 /// Whether the tables of a connection are those of a sound library. Nothing changes. The fault is NoMemory or Store, at 0;
-/// it is Store inside a transaction, and where the connection has no tables of a library.
-pub fn examine_tables<S: Rising>(alloc: Global, conn: &mut Connection<S>) -> Result<Examined, Fault>
+/// it is Store inside a transaction, and where the connection has no tables of a library. `size` is that of the file, in
+/// bytes, for the line of a sound library.
+pub fn examine_tables<S: Rising>(
+    alloc: Global,
+    conn: &mut Connection<S>,
+    size: u64,
+) -> Result<Examined, Fault>
     ensures examines { Examines result (state S.Store conn.old) (state S.Store conn.new) }
     ensures mode { conn.new.in_transaction ≡ conn.old.in_transaction }
 {
@@ -51,7 +60,7 @@ pub fn examine_tables<S: Rising>(alloc: Global, conn: &mut Connection<S>) -> Res
         return Err(store_at(0));
     }
     match all_rows(conn, alloc) {
-        Ok(all) => match judged(alloc, &all) {
+        Ok(all) => match judged(alloc, &all, size) {
             Ok(found) => Ok(found),
             Err(_) => Err(FaultKind::NoMemory.without_line()),
         },
@@ -60,7 +69,7 @@ pub fn examine_tables<S: Rising>(alloc: Global, conn: &mut Connection<S>) -> Res
 }
 
 /// What is found in rows.
-fn judged(alloc: Global, all: &AllRows) -> Result<Examined, AllocError>
+fn judged(alloc: Global, all: &AllRows, size: u64) -> Result<Examined, AllocError>
     ensures { IfOk result (λ found. (it : Rows) → AreAllRows it all.now → IsFoundIn it found) }
 {
     let text = findings(
@@ -78,22 +87,50 @@ fn judged(alloc: Global, all: &AllRows) -> Result<Examined, AllocError>
         held_decks(&all.library.idents),
         all.library.cards.len(),
         all.kept.runs.len(),
+        reply_bytes(&all.kept.runs),
+        size,
     )?;
     Ok(Examined::Sound(line))
 }
 
-/// The line of a sound library with these numbers of decks, cards and stored runs.
-fn sound_line(alloc: Global, decks: usize, cards: usize, runs: usize) -> Result<Vec<u8>, AllocError>
-    ensures { IfOk result (λ line. line.items ≡ sound_line decks cards runs) }
+/// How many bytes the replies of stored runs have.
+fn reply_bytes(runs: &[RunRow]) -> u64
+    ensures { result ≡ reply_bytes runs.now }
 {
-    let mut line = Vec::from_slice(alloc, b"sound: decks ")?;
-    line.extend_from_slice(Buffer::new().format(decks).as_bytes())?;
-    line.extend_from_slice(b", cards ")?;
-    line.extend_from_slice(Buffer::new().format(cards).as_bytes())?;
-    line.extend_from_slice(b", runs ")?;
-    line.extend_from_slice(Buffer::new().format(runs).as_bytes())?;
+    let mut count = 0u64;
+    for run in runs {
+        count = count.saturating_add(run.reply.len() as u64);
+    }
+    count
+}
+
+/// The line of a sound library with these numbers of decks, cards and stored runs, and of bytes of the replies and of
+/// the file.
+fn sound_line(
+    alloc: Global,
+    decks: usize,
+    cards: usize,
+    runs: usize,
+    replies: u64,
+    size: u64,
+) -> Result<Vec<u8>, AllocError>
+    ensures { IfOk result (λ line. line.items ≡ sound_line decks cards runs replies size) }
+{
+    let mut line = Vec::new(alloc);
+    push_count(&mut line, b"sound: decks ", decks as u64)?;
+    push_count(&mut line, b", cards ", cards as u64)?;
+    push_count(&mut line, b", runs ", runs as u64)?;
+    push_count(&mut line, b", replies ", replies)?;
+    push_count(&mut line, b", file ", size)?;
     line.extend_from_slice(b"\n")?;
     Ok(line)
+}
+
+fn push_count(line: &mut Vec<u8>, words: &[u8], count: u64) -> Result<(), AllocError>
+    ensures { OnOk result (line.new.items ≡ line.old.items ++ (words.now ++ decimal count)) }
+{
+    line.extend_from_slice(words)?;
+    line.extend_from_slice(Buffer::new().format(count).as_bytes())
 }
 
 fn held_decks(idents: &[Ident]) -> usize
@@ -117,8 +154,9 @@ pub fn examine<St: Start>(rt: &HostRuntime, path: &str, start: St) -> Result<Rep
         return Ok(Report::Other(situation));
     }
     let log = has_frames(rt, path).unwrap_or(false);
+    let size = fs::metadata(rt, path).map_or(0, |found| found.len());
     match Connection::open_from(rt, path, false, start) {
-        Ok(conn) => examine_opened(rt.alloc(), conn, log),
+        Ok(conn) => examine_opened(rt.alloc(), conn, log, size),
         Err((error, _)) => unopened(error),
     }
 }
@@ -144,6 +182,7 @@ fn examine_opened<S: Rising + Drop>(
     alloc: Global,
     conn: Connection<S>,
     log: bool,
+    size: u64,
 ) -> Result<Report, Fault>
     ensures said { ReportsOn (state S.Store) conn result }
     ensures memory { IfErr result (λ fault. fault.kind ≡ NoMemory) }
@@ -151,7 +190,7 @@ fn examine_opened<S: Rising + Drop>(
     match SqlStore::adopt(conn) {
         Ok(store) => {
             let mut conn = store.into_connection();
-            match examine_tables(alloc, &mut conn) {
+            match examine_tables(alloc, &mut conn, size) {
                 Ok(found) => Ok(Report::Library(found, log)),
                 Err(fault) => match fault.kind {
                     FaultKind::NoMemory => Err(FaultKind::NoMemory.without_line()),

@@ -9,7 +9,7 @@ use std::test::Fail;
 use upd_keep::Situation;
 use upd_testkit::check::{holds, same_text};
 
-const EMPTY_LINE: &str = "sound: decks 0, cards 0, runs 0\n";
+const EMPTY_LINE: &str = "sound: decks 0, cards 0, runs 0, replies 0";
 
 const ONE_CARD: Step<'static> = Step::Accepts("1", "full", "*DECK A\nONE\n");
 
@@ -103,7 +103,7 @@ fn a_sound_library_is_counted(rt: HostRuntime) -> Result<(), Fail> {
         Step::IsSound(EMPTY_LINE, false),
         Step::Accepts("1", "full", "*DECK A\nONE\n*IDENT X\n*INSERT A.1\nTWO\n"),
         Step::Accepts("2", "full", "*COMDECK B\nONE\n"),
-        Step::IsSound("sound: decks 2, cards 5, runs 2\n", false),
+        Step::IsSound("sound: decks 2, cards 5, runs 2, replies 584", false),
     ];
     session(&rt, "sound", STEPS)
 }
@@ -115,7 +115,7 @@ fn an_examination_changes_no_byte(rt: HostRuntime) -> Result<(), Fail> {
     stays(
         &rt,
         &file,
-        Step::IsSound("sound: decks 1, cards 2, runs 1\n", false),
+        Step::IsSound("sound: decks 1, cards 2, runs 1, replies 192", false),
     )?;
     remove(&rt, &file)
 }
@@ -266,7 +266,7 @@ fn the_command_writes_what_was_found(rt: HostRuntime) -> Result<(), Fail> {
     const STEPS: &[Step<'_>] = &[
         Step::Answers("examine", &[], "", NO_FILE),
         Step::Answers("init", &[], "", SILENT),
-        Step::Writes("examine", &[], EMPTY_LINE),
+        Step::Examines(EMPTY_LINE),
     ];
     session_without_file(&rt, "reported", STEPS)
 }
@@ -275,13 +275,8 @@ fn the_command_writes_what_was_found(rt: HostRuntime) -> Result<(), Fail> {
 fn the_command_reports_a_log(rt: HostRuntime) -> Result<(), Fail> {
     const LINES: &str = "\
 log: keep FILE-wal with the file, it may have commits that the file lacks
-sound: decks 0, cards 0, runs 0
-";
-    session(
-        &rt,
-        "logged",
-        &[LOGGED, Step::Writes("examine", &[], LINES)],
-    )
+sound: decks 0, cards 0, runs 0, replies 0";
+    session(&rt, "logged", &[LOGGED, Step::Examines(LINES)])
 }
 
 #[test]

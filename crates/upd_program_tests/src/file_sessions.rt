@@ -4,6 +4,7 @@ use crate::file_changes::{change, change_log};
 use crate::refusals::COMMANDS;
 use crate::table_rows::has_rows;
 use sqlite_disk::Unknown;
+use std::fs;
 use std::test::Fail;
 use upd_keep::{Examined, Report, Situation, examine};
 use upd_testkit::check::{same, same_text};
@@ -36,12 +37,20 @@ pub enum Step<'a> {
     LosesLog,
     /// The tables have these rows: sorted lines, each with a table and its values.
     HasRows(&'a str),
-    /// The library is sound when examined: its line, and whether its log has frames.
+    /// The library is sound when examined: its line up to the size of the file, and whether its log has frames.
     IsSound(&'a str, bool),
+    /// `examine` writes this only, and then the size of the file.
+    Examines(&'a str),
     /// The library is not sound when examined, and these are the lines.
     IsUnsound(&'a str),
     /// No library is examined at the path, which is in this situation.
     Is(Situation),
+}
+
+/// A text with the size of a file at its end.
+fn with_size(rt: &HostRuntime, file: &str, text: &str) -> Result<String, Fail> {
+    let size = fs::metadata(rt, file)?.len();
+    Ok(format!(in rt.alloc(); "{text}, file {size}\n")?)
 }
 
 /// What was found is that all is sound, with this line, and the log has frames or not.
@@ -97,7 +106,13 @@ fn take(rt: &HostRuntime, file: &str, step: Step<'_>) -> Result<(), Fail> {
         Step::Logs(sql) => change_log(rt, file, sql),
         Step::LosesLog => without_log(rt, file),
         Step::HasRows(rows) => has_rows(rt, file, rows),
-        Step::IsSound(line, frames) => is_sound(&examined(rt, file)?, line, frames),
+        Step::IsSound(line, frames) => {
+            is_sound(&examined(rt, file)?, &with_size(rt, file, line)?, frames)
+        }
+        Step::Examines(text) => {
+            let output = with_size(rt, file, text)?;
+            answers_of(rt, file, "examine", &[], "", (0, &output, ""))
+        }
         Step::IsUnsound(lines) => is_unsound(&examined(rt, file)?, lines),
         Step::Is(situation) => is_other(&examined(rt, file)?, situation),
     }

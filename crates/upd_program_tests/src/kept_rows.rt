@@ -70,12 +70,8 @@ fn keeps_rows(rt: &HostRuntime, name: &str, steps: &[Step<'_>]) -> Result<(), Fa
 
 #[test]
 fn an_examination_changes_no_row(rt: HostRuntime) -> Result<(), Fail> {
-    const SOUND: &str = "sound: decks 1, cards 6, runs 3\n";
-    keeps_rows(
-        &rt,
-        "examined",
-        &[YANKED, Step::Writes("examine", &[], SOUND)],
-    )
+    const SOUND: &str = "sound: decks 1, cards 6, runs 3, replies 283";
+    keeps_rows(&rt, "examined", &[YANKED, Step::Examines(SOUND)])
 }
 
 const MADE: Step<'static> = Step::Answers("init", &[], "", (3, "", "upd: Store (29) at 3\n"));

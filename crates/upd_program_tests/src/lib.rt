@@ -28,6 +28,8 @@ mod listing_files;
 #[cfg(test)]
 mod lone_logs;
 #[cfg(test)]
+mod printed_fields;
+#[cfg(test)]
 mod refusals;
 #[cfg(test)]
 mod replayed_files;

@@ -37,7 +37,10 @@ fn are_same_and_large(rt: &HostRuntime, file: &str, copy: &str) -> Result<(), Fa
 
 #[test]
 fn a_large_library_is_copied_whole(rt: HostRuntime) -> Result<(), Fail> {
-    const SOUND: Step<'_> = Step::IsSound("sound: decks 3, cards 6000, runs 3\n", false);
+    const SOUND: Step<'_> = Step::IsSound(
+        "sound: decks 3, cards 6000, runs 3, replies 1175703",
+        false,
+    );
     let (file, copy) = (large(&rt, "large")?, fresh(&rt, "large-copy")?);
     copies(&rt, &file, &copy)?;
     are_same_and_large(&rt, &file, &copy)?;

@@ -103,7 +103,7 @@ fn a_library_in_use_is_refused(rt: HostRuntime) -> Result<(), Fail> {
     const IN_USE: &[Step<'_>] = &[Step::AllAnswer(NO_LIBRARY), Step::Is(Situation::InUse)];
     const AFTERWARDS: &[Step<'_>] = &[
         Step::Writes("idents", &[], ""),
-        Step::IsSound("sound: decks 0, cards 0, runs 0\n", false),
+        Step::IsSound("sound: decks 0, cards 0, runs 0, replies 0", false),
     ];
     let file = library(&rt, "used")?;
     take_in_use(&rt, &file, connected(&rt, &file)?, IN_USE)?;

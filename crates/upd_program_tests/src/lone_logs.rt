@@ -50,7 +50,7 @@ fn a_log_is_kept_until_its_file_is_back(rt: HostRuntime) -> Result<(), Fail> {
     keeps_log(&rt, &file)?;
     holds("no file is made", !fs::exists(&rt, file.as_str())?)?;
     fs::rename(&rt, moved.as_str(), file.as_str())?;
-    take_all(&rt, &file, &[Step::Writes("sites", &[], "LYON 3 3 4\n")])?;
+    take_all(&rt, &file, &[Step::Writes("sites", &[], "LYON 3 3 4 0\n")])?;
     remove(&rt, &file)
 }
 
@@ -67,7 +67,7 @@ fn a_log_beside_an_empty_file_is_kept(rt: HostRuntime) -> Result<(), Fail> {
 fn is_made_over(rt: &HostRuntime, bytes: &[u8]) -> Result<(), Fail> {
     const MADE: &[Step<'_>] = &[
         Step::Answers("init", &[], "", SILENT),
-        Step::IsSound("sound: decks 0, cards 0, runs 0\n", false),
+        Step::IsSound("sound: decks 0, cards 0, runs 0, replies 0", false),
     ];
     let file = library(rt, "ended")?;
     fs::write(rt, file.as_str(), bytes)?;

@@ -6,7 +6,7 @@ use std::io::{ErrorKind, Read, Write};
 use std::net::{Shutdown, SocketAddr, TcpStream};
 use std::test::Fail;
 use upd_cli::run_command;
-use upd_testkit::check::{same, same_text};
+use upd_testkit::check::{holds, same, same_text};
 
 const IDENTS: &str = "GET /idents HTTP/1.1\r\n\r\n";
 
@@ -104,10 +104,14 @@ pub fn serves(rt: &HostRuntime, file: &str, request: &str, wanted: &str) -> Resu
     is_answered(rt.alloc(), client, wanted)
 }
 
-/// What is written is the line with a client's address.
-fn is_line_of(alloc: Global, written: &[u8], client: &Client) -> Result<(), Fail> {
-    let wanted = format!(in alloc; "upd: listening on {}\n", client.address)?;
-    same_text("the faults", std::str::from_utf8(written)?, &wanted)
+/// What is written is the line with a client's address, and then this line up to the milliseconds.
+fn is_line_of(alloc: Global, written: &[u8], client: &Client, wanted: &str) -> Result<(), Fail> {
+    let text = std::str::from_utf8(written)?;
+    let (lines, millis) = text.rsplit_once(' ').ok_or("no blank")?;
+    let wanted = format!(in alloc; "upd: listening on {}\n{wanted}", client.address)?;
+    same_text("the faults", lines, &wanted)?;
+    let digits = millis.strip_suffix("ms\n").ok_or("no milliseconds")?;
+    holds("a number", digits.parse::<u64>().is_ok())
 }
 
 /// A client is answered at the port that the line has, which isn't the 0 of the command line.
@@ -115,7 +119,8 @@ fn is_line_of(alloc: Global, written: &[u8], client: &Client) -> Result<(), Fail
 fn the_line_of_serve_has_the_port_where_clients_are_answered(rt: HostRuntime) -> Result<(), Fail> {
     let file = library(&rt, "listening")?;
     let (written, client) = served(&rt, &file, IDENTS, false)?;
-    is_line_of(rt.alloc(), &written, &client)?;
+    let line = "upd: GET /idents - - 200 ok 24 83";
+    is_line_of(rt.alloc(), &written, &client, line)?;
     is_answered(rt.alloc(), client, NO_IDENTS)?;
     remove(&rt, &file)
 }

@@ -121,7 +121,7 @@ fn stored_runs_and_sites_are_listed(rt: HostRuntime) -> Result<(), Fail> {
             &[],
             "LYON 9 quick accepted A\nLYON 10 full TextNowhere\n",
         ),
-        Step::Writes("sites", &[], "LYON 0 10 11\nOSLO 7 7 8\n"),
+        Step::Writes("sites", &[], "LYON 0 10 11 217\nOSLO 7 7 8 0\n"),
     ];
     session(&rt, "listed", STEPS)
 }
@@ -142,7 +142,7 @@ fn is_copied(rt: &HostRuntime, file: &str, copy: &str) -> Result<(), Fail> {
 fn a_copy_is_a_library_by_itself(rt: HostRuntime) -> Result<(), Fail> {
     const COPIED: &[Step<'_>] = &[
         Step::Writes("idents", &[], "1 A deck held\n"),
-        Step::Writes("sites", &[], "LYON 0 999999999 none\n"),
+        Step::Writes("sites", &[], "LYON 0 999999999 none 125\n"),
     ];
     let (file, copy) = (library(&rt, "original")?, fresh(&rt, "copy")?);
     is_copied(&rt, &file, &copy)?;

@@ -5,5 +5,4 @@ pub mod ReportingLemmas
 pub mod QueryAnswers
 pub mod FailingLemmas
 pub mod TriedLemmas
-pub mod LineLemmas
 pub mod PartLemmas

@@ -35,7 +35,7 @@ use Rattle.upd_views.specs.LibraryPage.{page}
 use Rattle.upd_desk.specs.Journal.{library_after}
 use Rattle.upd_wire.specs.Spools.{Ends}
 use Rattle.upd_wire.specs.Serving.{LeadsThrough, Made}
-use Rattle.upd_subcommands.specs.Listening.{ReportsPlace}
+use Rattle.upd_subcommands.specs.Listening.{ReportsServing}
 use Rattle.upd_words.specs.declared.words.Command.{Command}
 use Rattle.upd_words.specs.declared.words.Command.TheVariants.{Run, Settle, Spool, Serve, Correct, CorrectParts, Try, Ask}
 use Rattle.upd_words.specs.declared.querying.Query.{Query}
@@ -127,10 +127,11 @@ module _ {S : Type 0} (meaning : Ghosts S) where
       (status ≡ 0) × ((count : ℕ) × Ends meaning old new input input' output output' (Ok count))
   EndsSpool (Err fault) old new input input' output output' = Ends meaning old new input input' output output' (Err fault)
 
-  -- At most this number of connections were served, all of them unless a read failed. Before them the fault stream got the address.
+  -- At most this number of connections were served, all of them unless a read failed. The fault stream got the address before them, and a line for each
+  -- that says what the desk did, but for lines that could not be written.
   pub record EndsServing (count : ℕ) (ended : Result ℕ Fault) (old new : S) (faults faults' : Option (List ℕ)) : Type 0 where
     pub leads : (made : List Made) × (length made ≤ count) × OnOk ended (length made ≡ count) × LeadsThrough meaning made old new
-    pub reports : (written : Result (Unit {0}) Fault) × ReportsPlace written faults faults'
+        × ReportsServing made faults faults'
     pub status : IfOk ended (λ status. status ≡ 0)
     pub err : IfErr ended (λ fault. fault ≡ read_failed)
 

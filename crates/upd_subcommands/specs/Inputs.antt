@@ -90,5 +90,5 @@ module _ {R W E : Type 0} (input : Stream R) (output : Stream W) (faults : Strea
     pub front : ¬ (IsOf IsSpool request) → TakesFront (most_read_for request) (before input) (after input)
     pub waits : ¬ (ReadsFor request) → input.new ≡ input.old
     pub silent : (status ≡ 2) ⊎ ((status ≡ 1) × ¬ (IsOf WritesRefusals request)) → output.new ≡ output.old
-    -- `try` may have written warnings, and `serve` where it listens.
+    -- `try` may have written warnings, and `serve` where it listens and what came of connections.
     pub clean : ¬ (IsOf UsesFaults request) → status ≡ 0 → faults.new ≡ faults.old

@@ -1,9 +1,9 @@
 //! Commands at the desk of a library.
-ghost use Rattle.std.specs.Prelude.{◌≡◌, ◌≤◌, ◌⊎◌, ◌+◌, List, Result, length, IfErr, IfOk, OnOk};
+ghost use Rattle.std.specs.Prelude.{◌≡◌, ◌≤◌, ◌⊎◌, ◌+◌, List, length, IfErr, IfOk, OnOk};
 ghost use Rattle.upd_wire.specs.Serving.{LeadsThrough, Made};
 ghost use Rattle.upd_subcommands.specs.DeskCommands.{Does, EndsSpool};
 ghost use Rattle.upd_subcommands.specs.Inputs.{HandsRuns, IsFirstRead, IsSpool, UsesFaults, ReadsFirst, WritesRefusals, most_read};
-ghost use Rattle.upd_subcommands.specs.Listening.{ReportsPlace};
+ghost use Rattle.upd_subcommands.specs.Listening.{ReportsServing};
 ghost use Rattle.upd_subcommands.specs.Status.{exit_status, no_memory, read_failed};
 ghost use Rattle.upd_subcommands.specs.Streams.{TakesFront, stream};
 ghost use Rattle.upd_text.specs.declared.fault.Fault.{Fault};
@@ -107,8 +107,8 @@ fn read_spool<S: RowStore, R: Read, W: Write>(
     }
 }
 
-/// Serves `count` connections at an address. Where it listens goes to `faults`; a failure of that doesn't end it.
-/// Read, at 0, where the address can't be bound.
+/// Serves `count` connections at an address. Where it listens goes to `faults`, and a line for each connection; a
+/// failure of that doesn't end it. Read, at 0, where the address can't be bound.
 fn serve<S: RowStore, E: Write>(
     rt: &HostRuntime,
     address: SocketAddr,
@@ -117,17 +117,16 @@ fn serve<S: RowStore, E: Write>(
     faults: &mut E,
 ) -> Result<u8, Fault>
     ensures leads { (made : List Made) × (length made ≤ count) × OnOk result (length made ≡ count)
-        × LeadsThrough S.Meaning made desk.old.store desk.new.store }
-    ensures reports { (written : Result (Unit {0}) Fault)
-        × ReportsPlace written (E.contents faults.old) (E.contents faults.new) }
+        × LeadsThrough S.Meaning made desk.old.store desk.new.store
+        × ReportsServing made (E.contents faults.old) (E.contents faults.new) }
     ensures status { IfOk result (λ status. status ≡ 0) }
     ensures err { IfErr result (λ fault. fault ≡ read_failed) }
 {
     match TcpListener::bind(rt, address) {
         Ok(listener) => {
             let _ = report_place(&listener, faults);
-            match serve_on_within(rt.alloc(), rt, &listener, count, desk) {
-                Ok(()) => Ok(DONE),
+            match serve_on_within(rt.alloc(), rt, &listener, count, desk, faults) {
+                Ok(_) => Ok(DONE),
                 Err(fault) => Err(fault),
             }
         }

@@ -13,6 +13,7 @@ use Rattle.upd_core.specs.Serials.{Serial}
 use Rattle.upd_core.specs.Status.{is_active, is_taken, live_targets}
 use Rattle.upd_compile.specs.File.{from_left}
 use Rattle.upd_compile.specs.Listings.{card_name}
+use Rattle.upd_views.specs.Printed.{printed_text}
 
 -- the ident of the last entry, or a given one where there is no entry
 abbrev pub last_ident : Serial → List Entry → Serial
@@ -27,7 +28,7 @@ switcher live deck c = last_ident c.ident (filter (λ e. not (is_taken live deck
 abbrev pub blame_line : List Ident → List Target → Serial → CardView → Bytes
 blame_line idents live deck c =
     from_left 2 (if is_active live deck c then codes "A" else codes "I") ++ from_left 18 (card_name idents c)
-    ++ from_left 12 (name_of idents (switcher live deck c)) ++ c.text ++ 10 ∷ []
+    ++ from_left 12 (name_of idents (switcher live deck c)) ++ printed_text c.text ++ 10 ∷ []
 
 -- the lines of a deck's cards
 abbrev pub blame_lines : Serial → LibraryView → Bytes

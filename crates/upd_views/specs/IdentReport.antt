@@ -11,8 +11,9 @@ use Rattle.upd_core.specs.declared.target.Target.{Target}
 use Rattle.upd_core.specs.declared.target.Target.TheVariants.{Set, SetIn, Deck}
 use Rattle.upd_core.specs.Library.{CardView, DeckView, LibraryView, all_decks, held_named}
 use Rattle.upd_core.specs.Serials.{Serial}
-use Rattle.upd_core.specs.Status.{is_good, live_targets}
-use Rattle.upd_compile.specs.Listings.{card_name, deck_line, deck_name, kind_word, line_of, target_line, word_if}
+use Rattle.upd_core.specs.Status.{is_active, is_good, live_targets}
+use Rattle.upd_compile.specs.Listings.{card_name, deck_name, kind_word, line_of, target_line, word_if}
+use Rattle.upd_views.specs.Printed.{printed_text}
 
 -- the head line: the ident's name, its kind and NOPROP
 unfoldable pub ident_heading : Ident → Bytes
@@ -36,13 +37,18 @@ yanked_lines idents z y = flat_map (yanked_line idents y) (filter (is_of z) y.ta
 
 -- ---- what it did in a deck
 
--- a card that the ident added: its line as in the deck's listing, and one for each of its targets
+-- the line of a card: a word, its reference and its text
+abbrev pub card_line : Bytes → List Ident → CardView → Bytes
+card_line word idents c = line_of (word ∷ card_name idents c ∷ printed_text c.text ∷ [])
+
+-- a card that the ident added: whether it is active, as in the deck's listing, and one for each of its targets
 abbrev pub added_lines : List Ident → List Target → Serial → Serial → CardView → Bytes
-added_lines idents live z deck c = if c.ident == z then deck_line idents live deck c ++ flat_map (target_line idents) c.targets else []
+added_lines idents live z deck c =
+    if c.ident == z then card_line (if is_active live deck c then codes "A" else codes "I") idents c ++ flat_map (target_line idents) c.targets else []
 
 -- the line of an entry: on or off, and the card
 abbrev pub switch_line : List Ident → CardView → Entry → Bytes
-switch_line idents c e = line_of ((if e.active then codes "on" else codes "off") ∷ card_name idents c ∷ c.text ∷ [])
+switch_line idents c e = card_line (if e.active then codes "on" else codes "off") idents c
 
 -- the lines of the ident's entries of a card, after the entry that the card began with
 abbrev pub switch_lines : List Ident → Serial → CardView → Bytes

@@ -1,3 +1,4 @@
+pub mod Printed
 pub mod RunLines
 pub mod SiteLines
 pub mod Blame

@@ -7,6 +7,7 @@ use Rattle.serde_json.specs.Data.{Data, null, boolean, number, string, array, ob
 use Rattle.serde_json.specs.Find.{as_array, get}
 use Rattle.serde_json.specs.Read.{read}
 use Rattle.upd_records.specs.Rows.{RunView, mode_word}
+use Rattle.upd_views.specs.Printed.{printed_field}
 
 -- the value of a reply; bytes that are no text of JSON have none
 abbrev pub said : List ℕ → Option Data
@@ -17,7 +18,7 @@ abbrev pub word_of : Data → List ℕ
 word_of null = []
 word_of (boolean b) = []
 word_of (number n) = []
-word_of (string word) = 32 ∷ word
+word_of (string word) = 32 ∷ printed_field word
 word_of (array items) = []
 word_of (object ms) = []
 
@@ -40,7 +41,7 @@ outcome accepted value = if accepted then codes " accepted" ++ idents_said value
 
 -- the line of a run
 abbrev pub run_line : RunView → List ℕ
-run_line r = r.site ++ 32 ∷ decimal r.number ++ 32 ∷ mode_word r.mode ++ outcome r.accepted (said r.reply) ++ 10 ∷ []
+run_line r = printed_field r.site ++ 32 ∷ decimal r.number ++ 32 ∷ mode_word r.mode ++ outcome r.accepted (said r.reply) ++ 10 ∷ []
 
 -- the lines of runs in order
 abbrev pub run_lines : List RunView → List ℕ

@@ -1,29 +1,35 @@
--- One line for each site: its mark, the greatest number that is taken, and the next one.
-use Rattle.std.specs.Prelude.{◌≡◌, ℕ, ◌+◌, nat_lt, max, if◌then◌else◌, List, [], ◌∷◌, ◌++◌, codes, decimal, map, IsPermutation}
+-- One line for each site: its mark, the greatest number that is taken, the next one, and how many bytes are stored.
+use Rattle.std.specs.Prelude.{◌≡◌, ℕ, ◌+◌, ◌-◌, ◌^◌, nat_lt, min, max, length, if◌then◌else◌, List, [], ◌∷◌, ◌++◌, codes, decimal, map, IsPermutation}
 use Rattle.std.specs.List.Sorted.{IsSortedByKey}
 use Rattle.std.specs.Ordering.{nat_cmp}
 use Rattle.std.specs.Cmp.Lexicographic.{slice_cmp}
 use Rattle.std.specs.Str.{bytes_eq}
 use Rattle.upd_views.specs.declared.sites.TheConstants.{MAX_NUMBER}
 use Rattle.upd_records.specs.Rows.{MarkRow, RunView}
+use Rattle.upd_views.specs.Printed.{printed_field}
 
--- A site, its mark, and the greatest of its mark and the numbers of its stored runs.
+-- A site, its mark, the greatest of its mark and the numbers of its stored runs, and how many bytes these runs and their replies have.
 pub record SiteView : Type 0 where
   pub site : List ℕ
   pub mark : ℕ
   pub greatest : ℕ
+  pub stored : ℕ
+
+-- two numbers of bytes together, or 2^64 - 1 where they are more
+abbrev pub both : ℕ → ℕ → ℕ
+both a b = min (a + b) (2 ^ 64 - 1)
 
 -- what a stored run says of its site
 abbrev pub of_run : RunView → SiteView
-of_run r = record { site = r.site; mark = 0; greatest = r.number }
+of_run r = record { site = r.site; mark = 0; greatest = r.number; stored = both (length r.bytes) (length r.reply) }
 
 -- what a mark says of its site
 abbrev pub of_mark : MarkRow → SiteView
-of_mark m = record { site = m.site; mark = m.mark; greatest = m.mark }
+of_mark m = record { site = m.site; mark = m.mark; greatest = m.mark; stored = 0 }
 
 -- two of one site as one
 abbrev pub joined : SiteView → SiteView → SiteView
-joined a b = record { site = a.site; mark = max a.mark b.mark; greatest = max a.greatest b.greatest }
+joined a b = record { site = a.site; mark = max a.mark b.mark; greatest = max a.greatest b.greatest; stored = both a.stored b.stored }
 
 -- the number after the greatest one; the last number of all has none
 abbrev pub next_number : ℕ → List ℕ
@@ -31,7 +37,8 @@ next_number greatest = if nat_lt greatest MAX_NUMBER then decimal (greatest + 1)
 
 -- the line of a site
 abbrev pub site_line : SiteView → List ℕ
-site_line s = s.site ++ 32 ∷ decimal s.mark ++ 32 ∷ decimal s.greatest ++ 32 ∷ next_number s.greatest ++ 10 ∷ []
+site_line s =
+    printed_field s.site ++ 32 ∷ decimal s.mark ++ 32 ∷ decimal s.greatest ++ 32 ∷ next_number s.greatest ++ 32 ∷ decimal s.stored ++ 10 ∷ []
 
 -- the lines of sites: what is said of one site next to each other is joined
 abbrev pub lines_from : SiteView → List SiteView → List ℕ

@@ -4,7 +4,9 @@ ghost use Rattle.std.specs.Prelude.{◌≡◌, ◌≤◌, ◌∷◌, ◌++◌, [
 ghost use Rattle.upd_compile.specs.File.{blanks, from_left};
 ghost use Rattle.upd_compile.specs.Listings.{card_name, deck_name, line_of};
 ghost use Rattle.upd_core.specs.Status.{is_active};
+ghost use Rattle.upd_views.specs.IdentReport.{card_line};
 
+use crate::printing::push_card_text;
 use std::alloc::AllocError;
 use upd_compile::listings::{deck_name, push_card_name};
 use upd_compile::text_parts::push_parts;
@@ -25,6 +27,22 @@ pub(crate) fn push_deck_line(
         ≡ text.old.items ++ line_of (codes "DECK" ∷ deck_name idents.now deck ∷ [])) }
 {
     push_parts(text, &[b"DECK ", deck_name(idents, deck), b"\n"])
+}
+
+/// Appends a line of a card: a word, its reference and its text.
+pub(crate) fn push_card_line(
+    text: &mut Vec<u8>,
+    word: &[u8],
+    idents: &[Ident],
+    card: &Card,
+) -> Result<(), AllocError>
+    ensures { OnOk result (text.new.items ≡ text.old.items ++ card_line word.now idents.now card.now) }
+{
+    push_parts(text, &[word, b" "])?;
+    push_card_name(text, idents, card)?;
+    text.extend_from_slice(b" ")?;
+    push_card_text(text, &card.text)?;
+    text.extend_from_slice(b"\n")
 }
 
 /// A for an active card of a deck, I for an inactive one.

@@ -12,9 +12,9 @@ ghost use Rattle.upd_text.specs.Outcome.{GivesAt};
 ghost use Rattle.upd_text.specs.declared.fault.FaultKind.TheVariants.{NoMemory};
 
 use crate::appending::{push_card_column, push_column, status_letter};
+use crate::printing::push_card_text;
 use std::alloc::{AllocError, Global};
 use upd_compile::idents::name_of;
-use upd_compile::text_parts::push_parts;
 use upd_core::{Card, Ident, Library, Live, Name, Serial};
 use upd_text::{Fault, FaultKind};
 
@@ -83,7 +83,8 @@ pub(crate) fn push_blame_line(
     push_column(text, status_letter(live, deck, card), STATUS_COLUMN)?;
     push_card_column(text, idents, card, CARD_COLUMN)?;
     push_column(text, switcher, SWITCHER_COLUMN)?;
-    push_parts(text, &[&card.text, b"\n"])
+    push_card_text(text, &card.text)?;
+    text.extend_from_slice(b"\n")
 }
 
 /// The serial of who switched a card last: of its last entry that isn't taken in the deck, else of the card's own

@@ -11,9 +11,9 @@ ghost use Rattle.upd_text.specs.Faults.{fault_at};
 ghost use Rattle.upd_text.specs.Outcome.{GivesAt};
 ghost use Rattle.upd_text.specs.declared.fault.FaultKind.TheVariants.{NoMemory};
 
-use crate::appending::{push_deck_line, status_letter};
+use crate::appending::{push_card_line, push_deck_line, status_letter};
 use std::alloc::{AllocError, Global};
-use upd_compile::listings::{push_card, push_card_name, push_target, push_targets};
+use upd_compile::listings::{push_card_name, push_target, push_targets};
 use upd_compile::text_parts::push_parts;
 use upd_core::{Card, Deck, Entry, Ident, Kind, Library, Live, Name, Serial, Target};
 use upd_text::{Fault, FaultKind};
@@ -203,7 +203,7 @@ fn push_added(
     if card.ident != ident {
         return Ok(());
     }
-    push_card(text, status_letter(live, deck, card), idents, card)?;
+    push_card_line(text, status_letter(live, deck, card), idents, card)?;
     push_targets(text, idents, &card.targets)
 }
 
@@ -220,7 +220,7 @@ fn push_switched(
 {
     for entry in entries {
         if entry.ident == ident {
-            push_card(text, switch_word(entry), idents, card)?;
+            push_card_line(text, switch_word(entry), idents, card)?;
         }
     }
     Ok(())

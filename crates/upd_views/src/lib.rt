@@ -10,6 +10,7 @@ pub mod escaping;
 pub mod fault_texts;
 pub mod ident_report;
 pub mod library_page;
+mod printing;
 mod runs;
 mod sites;
 
@@ -18,5 +19,6 @@ pub use escaping::escaped_texts_have_no_markup;
 pub use fault_texts::{each_fault_has_one_text, explain};
 pub use ident_report::show;
 pub use library_page::{page, pages_need_nothing_outside};
+pub use printing::printed_texts_are_printable;
 pub use runs::run_lines;
 pub use sites::site_lines;

@@ -5,6 +5,7 @@ ghost use Rattle.serde_json.specs.View.{items_view, view};
 ghost use Rattle.upd_views.specs.RunLines.{idents_said, outcome, refusal_said, run_line, run_lines, said};
 ghost use Rattle.upd_views.specs.RunLines.{word_of, words_of};
 
+use crate::printing::push_field;
 use itoa::Buffer;
 use serde_json::Value;
 use std::alloc::{AllocError, Global};
@@ -27,7 +28,7 @@ fn push_run(alloc: Global, text: &mut Vec<u8>, run: &RunRow) -> Result<(), Alloc
     ensures { OnOk result (text.new.items ≡ text.old.items ++ run_line run.now) }
 {
     let value = said(alloc, &run.reply)?;
-    text.extend_from_slice(run.site.as_bytes())?;
+    push_field(text, run.site.as_bytes())?;
     text.extend_from_slice(b" ")?;
     text.extend_from_slice(Buffer::new().format(run.number).as_bytes())?;
     push_parts(text, &[b" ", mode_word(run.mode)])?;
@@ -99,7 +100,10 @@ fn push_word(text: &mut Vec<u8>, value: &Value) -> Result<(), AllocError>
     ensures { OnOk result (text.new.items ≡ text.old.items ++ word_of (view value.now)) }
 {
     match value.as_str() {
-        Some(word) => push_parts(text, &[b" ", word.as_bytes()]),
+        Some(word) => {
+            text.extend_from_slice(b" ")?;
+            push_field(text, word.as_bytes())
+        }
         None => Ok(()),
     }
 }

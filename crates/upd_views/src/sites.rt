@@ -1,13 +1,15 @@
 //! One line for each site.
 
-ghost use Rattle.std.specs.Prelude.{◌≡◌, ◌++◌, map, IfOk, IsPermutation, OnOk};
-ghost use Rattle.upd_views.specs.SiteLines.{AreBySite, AreSiteLines, joined, lines_from, lines_of, next_number};
+ghost use Rattle.std.specs.Prelude.{◌≡◌, ◌∷◌, ◌++◌, decimal, map, IfOk, IsPermutation, OnOk};
+ghost use Rattle.upd_views.specs.SiteLines.{AreBySite, AreSiteLines, both, joined, lines_from, lines_of, next_number};
 ghost use Rattle.upd_views.specs.SiteLines.{of_mark, of_run, site_line};
 
+use crate::printing::push_field;
 use itoa::Buffer;
 use std::alloc::{AllocError, Global};
 use std::marker::Model;
 use upd_records::{MarkRow, RunRow};
+
 /// The greatest number of a run.
 const MAX_NUMBER: u64 = 999_999_999;
 
@@ -18,6 +20,8 @@ struct Site<'a> {
     mark: u64,
     /// The greatest of its mark and the numbers of its stored runs.
     greatest: u64,
+    /// How many bytes its stored runs and their replies have.
+    stored: u64,
 }
 
 impl<'a> Model for Site<'a> {
@@ -25,7 +29,7 @@ impl<'a> Model for Site<'a> {
 
     ghost Value = { SiteView };
 
-    ghost view = { λ s. record { site = s.site.now; mark = s.mark; greatest = s.greatest } };
+    ghost view = { λ s. record { site = s.site.now; mark = s.mark; greatest = s.greatest; stored = s.stored } };
 }
 
 impl<'a> Site<'a> {
@@ -36,12 +40,14 @@ impl<'a> Site<'a> {
             site: self.site,
             mark: self.mark,
             greatest: self.greatest,
+            stored: self.stored,
         }
     }
 }
 
 /// The line of each site that has a stored run or a mark, by their names: the site, its mark, the greatest number that
-/// is taken by its mark or by a stored run, and the next number, `none` where there is no greater one.
+/// is taken by its mark or by a stored run, the next number, `none` where there is no greater one, and how many bytes its
+/// stored runs and their replies have.
 pub fn site_lines(alloc: Global, runs: &[RunRow], marks: &[MarkRow]) -> Result<Vec<u8>, AllocError>
     ensures { IfOk result (λ text. AreSiteLines runs.now marks.now text.items) }
 {
@@ -62,6 +68,7 @@ fn push_runs<'a>(sites: &mut Vec<Site<'a>>, runs: &'a [RunRow]) -> Result<(), Al
             site: run.site.as_str(),
             mark: 0,
             greatest: run.number,
+            stored: both(run.bytes.len() as u64, run.reply.len() as u64),
         })?;
     }
     Ok(())
@@ -75,6 +82,7 @@ fn push_marks<'a>(sites: &mut Vec<Site<'a>>, marks: &'a [MarkRow]) -> Result<(),
             site: row.site.as_str(),
             mark: row.mark,
             greatest: row.mark,
+            stored: 0,
         })?;
     }
     Ok(())
@@ -124,20 +132,35 @@ fn joined<'a>(a: &Site<'a>, b: &Site<'a>) -> Site<'a>
         site: a.site,
         mark: a.mark.max(b.mark),
         greatest: a.greatest.max(b.greatest),
+        stored: both(a.stored, b.stored),
     }
+}
+
+/// Two numbers of bytes together, or the greatest number where they are more.
+fn both(a: u64, b: u64) -> u64
+    ensures { result ≡ both a b }
+{
+    a.saturating_add(b)
 }
 
 fn push_site(text: &mut Vec<u8>, site: &Site<'_>) -> Result<(), AllocError>
     ensures { OnOk result (text.new.items ≡ text.old.items ++ site_line site.entry.now) }
 {
-    text.extend_from_slice(site.site.as_bytes())?;
-    text.extend_from_slice(b" ")?;
-    text.extend_from_slice(Buffer::new().format(site.mark).as_bytes())?;
-    text.extend_from_slice(b" ")?;
-    text.extend_from_slice(Buffer::new().format(site.greatest).as_bytes())?;
+    push_field(text, site.site.as_bytes())?;
+    push_number(text, site.mark)?;
+    push_number(text, site.greatest)?;
     text.extend_from_slice(b" ")?;
     push_next(text, site.greatest)?;
+    push_number(text, site.stored)?;
     text.extend_from_slice(b"\n")
+}
+
+/// Appends a blank and a number.
+fn push_number(text: &mut Vec<u8>, number: u64) -> Result<(), AllocError>
+    ensures { OnOk result (text.new.items ≡ text.old.items ++ 32 ∷ decimal number) }
+{
+    text.extend_from_slice(b" ")?;
+    text.extend_from_slice(Buffer::new().format(number).as_bytes())
 }
 
 fn push_next(text: &mut Vec<u8>, greatest: u64) -> Result<(), AllocError>

@@ -1,12 +1,38 @@
 -- A request and its answer.
-use Rattle.std.proofs.Common.{◌≡◌, ◌⊎◌, inl, inr, ℕ, List, Option, None, Result, Ok, Err, IfOk, IfErr, IsErrAnd, refl, sym, ap, ◌∙◌}
-use Rattle.std.specs.Result.{result_map_both}
-use Rattle.upd_wire.specs.Calls.{Asked}
-use Rattle.upd_wire.specs.Requests.{IsFailure, Says}
+use Rattle.std.proofs.Common.{
+  ◌≡◌,
+  ◌⊎◌,
+  ◌≤◌,
+  ◌+◌,
+  inl,
+  inr,
+  ℕ,
+  List,
+  [],
+  Option,
+  Some,
+  None,
+  Result,
+  Ok,
+  Err,
+  IfOk,
+  IfErr,
+  IsErrAnd,
+  refl,
+  sym,
+  subst,
+  ap,
+  ◌∙◌,
+  arith,
+}
+use Rattle.upd_wire.specs.Calls.{Asked, asked}
+use Rattle.upd_wire.specs.LogLines.{ExchangeView, Exchanges, IsAskOf, SaysAsked, WritesLine, asked_of}
+use Rattle.upd_wire.specs.Requests.{IsFailure, IsRead, Says}
+use Rattle.upd_wire.specs.declared.call.DeskCall.{DeskCall}
 use Rattle.upd_wire.specs.declared.call.Refusal.{Refusal}
 use Rattle.upd_text.specs.declared.fault.Fault.{Fault}
 use Rattle.upd_wire.specs.Responses.{Response, refusal_answer}
-use Rattle.upd_wire.specs.Serving.{AnswersRequest, IsAsked, Made, Sends, no_memory}
+use Rattle.upd_wire.specs.Serving.{AnswersRequest, IsAsked, IsFailed, Made, no_memory, read_failed}
 use Rattle.upd_wire.specs.AnswerViews.{answer_seen, response}
 use Rattle.upd_wire.specs.declared.http_answer.Answer.{Answer}
 
@@ -14,13 +40,6 @@ use Rattle.upd_wire.specs.declared.http_answer.Answer.{Answer}
 pub fault_is : {T : Type 0} (result : Result T Fault) (fault : Fault) → IsErrAnd result (λ e. e ≡ fault) → result ≡ Err fault
 fault_is (Ok x) fault is = absurd is
 fault_is (Err e) fault is = ap Err is
-
--- what is written doesn't depend on what is returned beside an answer
-pub sends_as : {A B : Type 0} (f : A → B) (answer : Result Response Fault) (result : Result A Fault) (old new : Option (List ℕ))
-    → Sends answer result old new → Sends answer (result_map_both f (λ e. e) result) old new
-sends_as f (Ok response) (Ok x) old new puts = puts
-sends_as f (Ok response) (Err fault) old new puts = puts
-sends_as f (Err fault) result old new (is, none) = (ap (result_map_both f (λ e. e)) is, none)
 
 -- the desk was asked what the input says
 pub answers_call : (input : List ℕ) (call : Asked) (made : Made) (answer : Result Response Fault) → Says input (Ok call) → IsAsked call made answer
@@ -41,3 +60,28 @@ pub answers_refusal : (input : List ℕ) (refusal : Refusal) (result : Result An
 answers_refusal input refusal (Ok a) says ok err = refused input refusal (Ok (response a)) says (sym ok)
 answers_refusal input refusal (Err e) says ok (inl wanting) = inr (inr (refl, inr (inl (ap Err wanting))))
 answers_refusal input refusal (Err e) says ok (inr is) = refused input refusal (Err e) says (sym is)
+
+-- what the desk was asked is what the request asks
+pub asks_of : (call : Asked) (made : Made) (answer : Result Response Fault) → IsAsked call made answer → IsAskOf (Some call) made
+asks_of call made answer (inl (told, is, answered)) = subst (IsAskOf (Some call)) (sym is) refl
+asks_of call made answer (inr (none, is)) = subst (IsAskOf (Some call)) (sym none) tt
+
+-- what was read is what the input asks
+pub read_says : (input : List ℕ) (request : Result DeskCall Refusal) → IsRead asked input request → SaysAsked input (asked_of request)
+read_says input (Ok call) says = says
+read_says input (Err refusal) failed = tt
+
+-- nothing was read
+pub nothing_exchanged : (input : List ℕ) (fault : Fault) → (fault ≡ no_memory) ⊎ (fault ≡ read_failed) → (e : ExchangeView)
+    → e ≡ record { head = []; asked = None; answer = Err fault } → Exchanges input None e
+nothing_exchanged input fault why e is =
+    subst (Exchanges input None) (sym is) (record { begins = (input, refl); says = tt; asks = tt; answers = inr (inr (refl, failed why)) })
+  where
+    failed : (fault ≡ no_memory) ⊎ (fault ≡ read_failed) → IsFailed (Err fault)
+    failed (inl memory) = inr (inl (ap Err memory))
+    failed (inr read) = inr (inr (ap Err read))
+
+-- a line that is lost is one
+pub lost_at_most : (line : List ℕ) (few lost : ℕ) (log log' : Option (List ℕ)) → WritesLine line few lost log log' → lost ≤ few + 1
+lost_at_most line few lost log log' (inl (same, whole)) = omega (arith, same)
+lost_at_most line few lost log log' (inr (more, front)) = omega (arith, more)

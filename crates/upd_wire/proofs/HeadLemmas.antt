@@ -6,7 +6,7 @@ use Rattle.httparse.specs.declared.Error.{Error}
 use Rattle.httparse.specs.declared.Error.TheVariants.{HeaderName, HeaderValue, NewLine, Status, Token, TooManyHeaders, Version}
 use Rattle.httparse.specs.Grammar.{HasNoRequest, NeverHasRequest, print_request}
 use Rattle.httparse.specs.Spans.{RequestExceeds}
-use Rattle.upd_wire.specs.Inputs.{IsInput}
+use Rattle.upd_wire.specs.Inputs.{Begins, IsInput}
 use Rattle.upd_wire.proofs.InputLemmas.{input_behind, some_input}
 use Rattle.upd_wire.specs.Calls.{bad_frame}
 use Rattle.upd_wire.specs.Requests.{IsFailure, RefusesHead}
@@ -20,19 +20,20 @@ nothing_has_head h rest (is, whole) =
     let long = ap length whole in
     absurd (omega (arith, simp length-append at long))
 
--- memory was wanting, or a read failed
-pub refused_by_failure : (known : Option (List ℕ)) (refusal : Refusal) → IsFailure refusal → (input : List ℕ) × IsInput known input × RefusesHead input refusal
-refused_by_failure known refusal failed =
-    let (input, is) = some_input known in
-    (input, is, inl failed)
+-- memory was wanting, or a read failed, after this front
+pub refused_by_failure : (old new : Option (List ℕ)) (front : List ℕ) (refusal : Refusal) → Consumes old new front → IsFailure refusal
+    → (input : List ℕ) × IsInput old input × Begins input front × RefusesHead input refusal
+refused_by_failure old new front refusal consumed failed =
+    let (rest, left) = some_input new in
+    (front ++ rest, input_behind old new front rest consumed left, (rest, refl), inl failed)
 
 -- a front of the input that shows that its head is bad
 pub refused_bad : (old new : Option (List ℕ)) (front : List ℕ) (refusal : Refusal) → Consumes old new front → length front ≤ MAX_HEAD_BYTES
     → NeverHasRequest front ⊎ (RequestExceeds MAX_HEADERS front ⊎ ((length front ≡ MAX_HEAD_BYTES) × HasNoRequest front))
-    → refusal ≡ bad_frame → (input : List ℕ) × IsInput old input × RefusesHead input refusal
+    → refusal ≡ bad_frame → (input : List ℕ) × IsInput old input × Begins input front × RefusesHead input refusal
 refused_bad old new front refusal consumed most why is =
     let (rest, left) = some_input new in
-    (front ++ rest, input_behind old new front rest consumed left, inr (inl ((front, rest, refl, most, why), is)))
+    (front ++ rest, input_behind old new front rest consumed left, (rest, refl), inr (inl ((front, rest, refl, most, why), is)))
 
 -- why a parser refused a front
 pub error_says : (front : List ℕ) (e : Error) → (e ≢ TooManyHeaders → NeverHasRequest front) → (e ≡ TooManyHeaders → RequestExceeds MAX_HEADERS front)

@@ -1,3 +1,4 @@
+pub mod LineLemmas
 pub mod FrontLemmas
 pub mod InputLemmas
 pub mod LengthLemmas

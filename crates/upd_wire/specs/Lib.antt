@@ -14,7 +14,8 @@ pub mod Spools
 pub mod Exchange
 pub mod Statuses
 pub mod Responses
-pub mod AnswerViews
 pub mod Serving
+pub mod LogLines
+pub mod AnswerViews
 pub mod Owed
 pub mod Served

@@ -1,12 +1,15 @@
 //! Connections, one after the other.
 
-ghost use Rattle.std.specs.Prelude.{◌≡◌, ◌≤◌, List, length, IfErr, OnOk};
+ghost use Rattle.std.specs.Prelude.{◌≡◌, ◌≤◌, ◌<◌, ◌-◌, ◌^◌, ℕ, List, length, IfErr, IfOk, OnOk};
+ghost use Rattle.upd_wire.specs.AnswerViews.{exchange_view, served_view};
+ghost use Rattle.upd_wire.specs.LogLines.{Exchanges, Logs, ServedView, WritesLine, log_line};
 ghost use Rattle.upd_wire.specs.Serving.{Leads, LeadsThrough, Made, read_failed};
 
 use crate::RouteTable;
-use crate::http_exchange::serve_request;
+use crate::http_exchange::{Exchange, serve_request};
+use crate::log_lines::{Served, write_line};
 use std::alloc::Global;
-use std::io::{ErrorKind, Read, Write};
+use std::io::{ErrorKind, Read, Sink, Write};
 use std::net::{Shutdown, TcpListener, TcpStream};
 use std::time::{Clock, Duration, Instant};
 use std::{io, thread};
@@ -48,45 +51,71 @@ pub fn serve_on<S: RowStore>(
         × LeadsThrough S.Meaning made desk.old.store desk.new.store }
     ensures err { IfErr result (λ fault. fault ≡ read_failed) }
 {
-    serve_each::<HostRuntime, S>(alloc, None, listener, count, desk)
+    match serve_each::<HostRuntime, S, Sink>(alloc, None, listener, count, desk, &mut io::sink()) {
+        Ok(_) => Ok(()),
+        Err(fault) => Err(fault),
+    }
 }
 
 /// Serves as `serve_on` does, and no connection for longer than 30 seconds by the clock. Where a connection can't be
 /// accepted it waits 10 milliseconds and tries again: Read after 100 failures in a row.
-pub fn serve_on_within<C: Clock, S: RowStore>(
+///
+/// Once a connection is closed its line goes to `log`, in one write. Returns how many lines could not be written.
+pub fn serve_on_within<C: Clock, S: RowStore, W: Write>(
     alloc: Global,
     clock: &C,
     listener: &TcpListener,
     count: u32,
     desk: &mut Desk<S>,
-) -> Result<(), Fault>
+    log: &mut W,
+) -> Result<u32, Fault>
     ensures leads { (made : List Made) × (length made ≤ count) × OnOk result (length made ≡ count)
-        × LeadsThrough S.Meaning made desk.old.store desk.new.store }
+        × LeadsThrough S.Meaning made desk.old.store desk.new.store
+        × ((served : List ServedView) × (lost : ℕ) × IfOk result (λ n. n ≡ lost)
+        × Logs served made lost (W.contents log.old) (W.contents log.new)) }
     ensures err { IfErr result (λ fault. fault ≡ read_failed) }
 {
-    serve_each(alloc, Some(clock), listener, count, desk)
+    serve_each(alloc, Some(clock), listener, count, desk, log)
 }
 
 /// Serves `count` connections. One that finds no memory for the routes gets no answer, and the next one makes them.
-fn serve_each<C: Clock, S: RowStore>(
+fn serve_each<C: Clock, S: RowStore, W: Write>(
     alloc: Global,
     clock: Option<&C>,
     listener: &TcpListener,
     count: u32,
     desk: &mut Desk<S>,
-) -> Result<(), Fault>
+    log: &mut W,
+) -> Result<u32, Fault>
     ensures leads { (made : List Made) × (length made ≤ count) × OnOk result (length made ≡ count)
-        × LeadsThrough S.Meaning made desk.old.store desk.new.store }
+        × LeadsThrough S.Meaning made desk.old.store desk.new.store
+        × ((served : List ServedView) × (lost : ℕ) × IfOk result (λ n. n ≡ lost)
+        × Logs served made lost (W.contents log.old) (W.contents log.new)) }
     ensures err { IfErr result (λ fault. fault ≡ read_failed) }
 {
     let mut routes = None;
+    let mut lost = 0;
     'connections: for _ in 0..count {
         match accept(listener, clock) {
-            Ok(stream) => serve_connection(alloc, clock, &mut routes, &stream, desk),
+            Ok(stream) => {
+                let served = serve_connection(alloc, clock, &mut routes, stream, desk);
+                lost = log_connection(log, &served, lost);
+            }
             Err(_) => return Err(FaultKind::Read.without_line()),
         }
     }
-    Ok(())
+    Ok(lost)
+}
+
+/// Writes the line of a connection. Returns how many lines are lost with it.
+fn log_connection<W: Write>(log: &mut W, served: &Served, lost: u32) -> u32
+    requires { lost < 2 ^ 32 - 1 }
+    ensures { WritesLine (log_line (served_view served.now)) lost result (W.contents log.old) (W.contents log.new) }
+{
+    match write_line(log, served) {
+        Ok(()) => lost,
+        Err(_) => lost + 1,
+    }
 }
 
 /// The next connection. With a clock, a failure may be for a passing reason.
@@ -103,35 +132,48 @@ fn accept<C: Clock>(listener: &TcpListener, clock: Option<&C>) -> io::Result<Tcp
     Ok(stream)
 }
 
-fn serve_connection<'c, C: Clock, S: RowStore>(
+/// Serves a connection, which is closed then.
+fn serve_connection<C: Clock, S: RowStore>(
     alloc: Global,
-    clock: Option<&'c C>,
+    clock: Option<&C>,
     routes: &mut Option<RouteTable>,
-    stream: &'c TcpStream,
+    stream: TcpStream,
     desk: &mut Desk<S>,
-)
-    ensures { (made : Made)
-        × Leads S.Meaning made desk.old.store desk.new.store }
+) -> Served
+    ensures { (made : Made) × (input : List ℕ) × Leads S.Meaning made desk.old.store desk.new.store
+        × Exchanges input made (exchange_view result.exchange) }
 {
     if routes.is_none() {
         *routes = RouteTable::new(alloc).ok();
     }
     let Some(routes) = routes else {
-        return;
+        return Served::failed(alloc, FaultKind::NoMemory);
     };
-    let Ok(since) = begin(stream, clock) else {
-        return;
+    let Ok(since) = begin(&stream, clock) else {
+        return Served::failed(alloc, FaultKind::Read);
     };
-    let mut reader = Client { stream, since };
-    let mut writer = Client { stream, since };
-    let Ok(is_whole) = serve_request(alloc, routes, &mut reader, &mut writer, desk) else {
-        return;
-    };
-    let _ = stream.shutdown(Shutdown::Write);
-    if is_whole {
-        let _ = stream.set_read_timeout(Some(Duration::from_secs(FAREWELL)));
+    let mut reader = Client::new(&stream, since);
+    let mut writer = Client::new(&stream, since);
+    let (exchange, sent) = serve_request(alloc, routes, &mut reader, &mut writer, desk);
+    if sent.is_ok() {
+        end(&mut reader, &exchange);
     }
-    read_surplus(&mut reader);
+    Served {
+        exchange,
+        got: reader.bytes,
+        sent: writer.bytes,
+        millis: reader.millis(),
+    }
+}
+
+/// Ends a connection after its answer.
+fn end<C: Clock>(client: &mut Client<'_, C>, exchange: &Exchange) {
+    let _ = client.stream.shutdown(Shutdown::Write);
+    if exchange.is_whole() {
+        let farewell = Some(Duration::from_secs(FAREWELL));
+        let _ = client.stream.set_read_timeout(farewell);
+    }
+    read_surplus(client);
 }
 
 /// Limits how long each read and write of a connection may take, and reads the clock.
@@ -157,9 +199,30 @@ struct Client<'a, C: Clock> {
     stream: &'a TcpStream,
     /// The clock, and the time at which the connection was accepted. None: without a limit.
     since: Option<(&'a C, Instant)>,
+    /// How many bytes were read or written.
+    bytes: u64,
 }
 
-impl<C: Clock> Client<'_, C> {
+impl<'a, C: Clock> Client<'a, C> {
+    fn new(stream: &'a TcpStream, since: Option<(&'a C, Instant)>) -> Client<'a, C> {
+        Client {
+            stream,
+            since,
+            bytes: 0,
+        }
+    }
+
+    /// The milliseconds since the connection was accepted; 0 without a clock, and where it can't be read.
+    fn millis(&self) -> u64 {
+        match self.since {
+            Some((clock, start)) => match start.elapsed(clock) {
+                Ok(time) => u64::try_from(time.as_millis()).unwrap_or(u64::MAX),
+                Err(_) => 0,
+            },
+            None => 0,
+        }
+    }
+
     /// TimedOut once the client's time is up.
     fn check_time(&self) -> io::Result<()> {
         if let Some((clock, start)) = self.since {
@@ -174,14 +237,18 @@ impl<C: Clock> Client<'_, C> {
 impl<C: Clock> Read for Client<'_, C> {
     fn read(&mut self, buf: &mut [u8]) -> io::Result<usize> {
         self.check_time()?;
-        (&mut &*self.stream).read(buf)
+        let count = (&mut &*self.stream).read(buf)?;
+        self.bytes = self.bytes.saturating_add(count as u64);
+        Ok(count)
     }
 }
 
 impl<C: Clock> Write for Client<'_, C> {
     fn write(&mut self, buf: &[u8]) -> io::Result<usize> {
         self.check_time()?;
-        (&mut &*self.stream).write(buf)
+        let count = (&mut &*self.stream).write(buf)?;
+        self.bytes = self.bytes.saturating_add(count as u64);
+        Ok(count)
     }
 
     fn flush(&mut self) -> io::Result<()> {

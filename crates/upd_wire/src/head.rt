@@ -3,7 +3,7 @@
 ghost use Rattle.std.specs.Prelude.{◌≡◌, ◌≤◌, ℕ, List, [], IfErr, IfOk, OnOk, length};
 ghost use Rattle.std.specs.Io.KnownBytes.{Consumes};
 ghost use Rattle.httparse.specs.Spans.{IsRequestOf, IsRequestWithin};
-ghost use Rattle.upd_wire.specs.Inputs.{IsInput};
+ghost use Rattle.upd_wire.specs.Inputs.{Begins, IsInput};
 ghost use Rattle.upd_wire.specs.Requests.{RefusesHead};
 
 use crate::call::Refusal;
@@ -31,7 +31,8 @@ pub(crate) fn read_head<R: Read>(
     ensures within { IfOk result (IsRequestWithin buf.new.items headers.new) }
     ensures most { OnOk result (length buf.new.items ≤ MAX_HEAD_BYTES) }
     ensures bytes { OnOk result (Consumes (R.remaining reader.old) (R.remaining reader.new) buf.new.items) }
-    ensures err { IfErr result (λ refusal. (input : List ℕ) × IsInput (R.remaining reader.old) input × RefusesHead input refusal) }
+    ensures err { IfErr result (λ refusal. (input : List ℕ) × IsInput (R.remaining reader.old) input
+        × Begins input buf.new.items × RefusesHead input refusal) }
 {
     let mut chunk = [0u8; 1024];
     'head: while buf.len() < MAX_HEAD_BYTES {

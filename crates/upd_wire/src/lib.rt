@@ -24,6 +24,7 @@ mod http_laws;
 mod http_status;
 mod http_writes;
 mod lengths;
+mod log_lines;
 mod parameters;
 pub mod reading;
 mod request;

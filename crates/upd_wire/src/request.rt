@@ -1,9 +1,9 @@
 //! A whole request.
 
-ghost use Rattle.std.specs.Prelude.{◌≡◌, ◌++◌, List, ℕ};
+ghost use Rattle.std.specs.Prelude.{◌≡◌, ◌++◌, [], List, ℕ};
 ghost use Rattle.httparse.specs.Grammar.{RequestHead as HttpHead};
 ghost use Rattle.httparse.specs.Spans.{IsRequestAt, IsRequestOf, IsRequestWithin};
-ghost use Rattle.upd_wire.specs.Inputs.{IsInput};
+ghost use Rattle.upd_wire.specs.Inputs.{Begins, IsInput};
 ghost use Rattle.upd_wire.specs.Calls.{Gives, asked};
 ghost use Rattle.upd_wire.specs.Parameters.{path_of};
 ghost use Rattle.upd_wire.specs.Requests.{GivesUnlessFailed, IsRead, body_of, checked_head};
@@ -40,9 +40,23 @@ pub fn read_call<R: Read>(
     ensures { (input : List ℕ) × IsInput (R.remaining reader.old) input × IsRead asked input result }
 {
     let mut buf = Vec::new(alloc);
+    read_request(alloc, routes, reader, &mut buf)
+}
+
+/// The same, with what was read with the head in `buf`, which is empty before.
+pub(crate) fn read_request<R: Read>(
+    alloc: Global,
+    routes: &RouteTable,
+    reader: &mut R,
+    buf: &mut Vec<u8>,
+) -> Result<DeskCall, Refusal>
+    requires { buf.old.items ≡ [] }
+    ensures { (input : List ℕ) × IsInput (R.remaining reader.old) input × Begins input buf.new.items
+        × IsRead asked input result }
+{
     let mut headers = [EMPTY_HEADER_SPAN; MAX_HEADERS];
-    let spans = read_head(reader, &mut buf, &mut headers)?;
-    let head = check_head(routes, &buf, &headers, spans)?;
+    let spans = read_head(reader, buf, &mut headers)?;
+    let head = check_head(routes, buf, &headers, spans)?;
     let body = read_body(alloc, reader, &buf[spans.len..], head.body_len)?;
     call_of(alloc, &head.found, body)
 }

@@ -20,7 +20,7 @@ fn client_after(rt: &HostRuntime, address: SocketAddr, sent: &[u8]) -> io::Resul
 }
 
 /// A listener on this machine.
-fn listener(rt: &HostRuntime) -> Result<TcpListener, Fail> {
+pub fn listener(rt: &HostRuntime) -> Result<TcpListener, Fail> {
     Ok(TcpListener::bind(rt, "127.0.0.1:0")?)
 }
 
@@ -42,7 +42,7 @@ fn reads(alloc: Global, mut client: TcpStream, wanted: &str) -> Result<(), Fail>
 type Exchange<'a> = (&'a [u8], &'a str);
 
 /// A client that has written this and writes no more.
-fn client_with(rt: &HostRuntime, address: SocketAddr, sent: &[u8]) -> io::Result<TcpStream> {
+pub fn client_with(rt: &HostRuntime, address: SocketAddr, sent: &[u8]) -> io::Result<TcpStream> {
     let client = client_after(rt, address, sent)?;
     client.shutdown(Shutdown::Write)?;
     Ok(client)
@@ -83,6 +83,7 @@ fn are_served<C: Clock>(
         listener,
         count,
         &mut empty_desk(rt.alloc()),
+        &mut io::sink(),
     )?;
     all_read(rt.alloc(), clients)
 }
@@ -178,7 +179,9 @@ fn ends(
     clock: &Sleeping<'_>,
     wanted: (Result<(), Fault>, u128),
 ) -> Result<(), Fail> {
-    let served = serve_on_within(alloc, clock, listener, 2, &mut empty_desk(alloc));
+    let mut log = io::sink();
+    let served = serve_on_within(alloc, clock, listener, 2, &mut empty_desk(alloc), &mut log);
+    let served = served.map(|_| ());
     same("the end, milliseconds", (served, clock.slept.get()), wanted)
 }
 
@@ -214,7 +217,8 @@ fn accepts_that_fail_for_a_while_end_nothing(rt: HostRuntime) -> Result<(), Fail
 /// How many seconds a connection at a listener is served.
 fn seconds_served(rt: &HostRuntime, listener: &TcpListener) -> Result<u64, Fail> {
     let start = Instant::now(rt)?;
-    serve_on_within(rt.alloc(), rt, listener, 1, &mut empty_desk(rt.alloc()))?;
+    let (mut desk, mut log) = (empty_desk(rt.alloc()), io::sink());
+    serve_on_within(rt.alloc(), rt, listener, 1, &mut desk, &mut log)?;
     Ok(start.elapsed(rt)?.as_secs())
 }
 
@@ -251,14 +255,15 @@ fn a_client_that_may_still_send_is_waited_for(rt: HostRuntime) -> Result<(), Fai
 
 /// A clock that goes forward by some seconds whenever it is read, after some first readings.
 #[derive(Drop)]
-struct Ticking {
+pub struct Ticking {
     readings: Cell<u64>,
     still: u64,
     step: u64,
 }
 
 impl Ticking {
-    fn new(still: u64, step: u64) -> Ticking {
+    /// A clock that goes forward by `step` seconds at each reading after the first `still`.
+    pub fn new(still: u64, step: u64) -> Ticking {
         Ticking {
             readings: Cell::new(0),
             still,
@@ -297,7 +302,8 @@ fn is_given_up(
     (listener, client): (TcpListener, TcpStream),
     still: u64,
 ) -> Result<(), Fail> {
-    serve_on_within(alloc, &Ticking::new(still, 30), &listener, 1, desk)?;
+    let clock = Ticking::new(still, 30);
+    serve_on_within(alloc, &clock, &listener, 1, desk, &mut io::sink())?;
     reads_nothing(alloc, client)
 }
 

@@ -18,6 +18,8 @@ mod http_frames;
 #[cfg(test)]
 mod list_desks;
 #[cfg(test)]
+mod log_of_connections;
+#[cfg(test)]
 mod memory_of_desks;
 #[cfg(test)]
 mod memory_of_streams;

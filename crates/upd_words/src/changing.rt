@@ -111,8 +111,9 @@ Example, after `upd init library.db`:
 const SERVE: Text = Text {
     about: "Serves COUNT HTTP connections to a library, one after the other, one request each",
     more: "\
-Reads and writes only connections, but for one line on standard error once clients can connect, as
-`upd: listening on 127.0.0.1:8080`. With port 0 the system chooses a port, and the line has it.
+Reads and writes only connections, but for standard error: one line once clients can connect, as
+`upd: listening on 127.0.0.1:8080`, and one for each connection that has ended, as
+`upd: GET /idents - - 200 ok 92 98 1ms`. With port 0 the system chooses a port, and the line has it.
 
 A client that is idle for 4 seconds, or takes more than 30, gets no complete answer. After an
 answer the next client is served when this one closes its connection or is idle for a second, or

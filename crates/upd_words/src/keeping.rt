@@ -136,7 +136,8 @@ const SITES: Text = Text {
     about: "Lists the sites, each with its settled mark and its next number",
     more: "\
 Reads nothing, and writes a line for each site that has a stored run or has settled: the site, its
-settled mark or 0, its greatest number, and the next one that is free. Changes nothing.
+settled mark or 0, its greatest number, the next one that is free, and how many bytes its stored
+runs and their replies have. Changes nothing.
 
 Exit status: 0 done; 2 the command line can't be read; 3 out of memory, or the library or a write
 failed. The fault is one line on standard error.
@@ -164,9 +165,9 @@ pub(crate) const EXAMINE: Text = Text {
     about: "Says what is at a path, and whether it is a sound library",
     more: "\
 Reads nothing. FILE can be anything. Where it is a library whose rows are sound, writes a line with the
-numbers of its decks, cards and stored runs. Else standard error says what there is and what to do, or
-what is wrong with the rows, a line each, at most 100. Changes nothing; an empty log may be left beside
-a database. No other command may have FILE open.
+numbers of its decks, cards and stored runs, and of the bytes of their replies and of the file. Else
+standard error says what there is and what to do, or what is wrong with the rows, a line each, at most
+100. Changes nothing; an empty log may be left beside a database. No other command may have FILE open.
 
 Exit status: 0 a sound library; 1 a library that is not sound; 2 the command line can't be read; 3 no
 library that can be read, out of memory, or the library or a write failed.

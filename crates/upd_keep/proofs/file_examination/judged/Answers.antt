@@ -3,7 +3,7 @@ use Rattle.std.specs.Prelude.{◌↔◌}
 use Rattle.std.proofs.lemmas.Bool.Decides.{nat_tests}
 use Rattle.std.specs.List.{count_by}
 use Rattle.upd_examine.specs.Findings.{AreSoundRows}
-use Rattle.upd_keep.specs.Examining.{is_held_deck}
+use Rattle.upd_keep.specs.Examining.{is_held_deck, reply_bytes}
 use Rattle.upd_keep.proofs.SameLength.{same_length}
 use Rattle.upd_keep.proofs.file_examination.judged.Goals as goal
 
@@ -31,4 +31,5 @@ returns c = λ it h.
     let decks : c.held_decks.result ≡ count_by is_held_deck it.idents = search (rules, held) in
     let cards : c.len.result ≡ length it.cards = search (rules, all_cards) in
     let runs : c.len-2.result ≡ length it.runs = search (rules, all_runs) in
-    ((all, h, decided.0 none), c.in_ok-line.ensures ∙ rw (decks, cards, runs) refl)
+    let replies : c.reply_bytes.result ≡ reply_bytes all.kept.runs.items = search rules in
+    (all, h, decided.0 none, (c.args.size, c.in_ok-line.ensures ∙ rw (decks, cards, runs, replies) refl))

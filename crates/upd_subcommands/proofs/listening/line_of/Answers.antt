@@ -1,6 +1,6 @@
 use Rattle.std.proofs.Common.{ap, ◌∙◌, ◌++◌}
 use Rattle.upd_subcommands.specs.Listening.{listening_line}
-use Rattle.upd_subcommands.proofs.LineLemmas.{text_written}
+use Rattle.upd_wire.proofs.LineLemmas.{text_written}
 use Rattle.upd_subcommands.proofs.listening.line_of.Goals as goal
 
 pub returns-in-Ok : goal.returns-in-Ok

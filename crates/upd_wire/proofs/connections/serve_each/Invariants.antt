@@ -1,7 +1,10 @@
-use Rattle.std.proofs.Common.{◌≡◌, List, length}
+use Rattle.std.proofs.Common.{◌≡◌, ◌≤◌, List, length}
+use Rattle.upd_wire.specs.LogLines.{Logs, ServedView}
 use Rattle.upd_wire.specs.Serving.{LeadsThrough, Made}
 use Rattle.upd_wire.proofs.connections.serve_each.Given as goal
 
 abbrev pub invariant-connections : goal.invariant-connections
 invariant-connections g l =
-    (made : List Made) × (length made ≡ l.counter) × LeadsThrough g.S.Meaning made l.initial.desk.store l.desk.store
+    (l.lost ≤ l.counter)
+    × ((made : List Made) × (length made ≡ l.counter) × LeadsThrough g.S.Meaning made l.initial.desk.store l.desk.store
+    × ((served : List ServedView) × Logs served made l.lost (g.W.Write.contents l.initial.log) (g.W.Write.contents l.log)))

@@ -2,6 +2,8 @@ use Rattle.std.proofs.Common.{◌≡◌, ◌≤◌, ◌++◌, inl, inr, refl, ap
 use Rattle.std.proofs.lemmas.List.{length-append, length-take-le}
 use Rattle.std.specs.Io.KnownBytes.{Consumes}
 use Rattle.httparse.specs.Spans.{RequestExceeds}
+use Rattle.upd_wire.specs.Inputs.{Begins, IsInput}
+use Rattle.upd_wire.specs.Requests.{RefusesHead}
 use Rattle.upd_wire.specs.declared.head.TheConstants.{MAX_HEAD_BYTES}
 use Rattle.std.proofs.KnownBytes.{Consumes-nil, Consumes-trans}
 use Rattle.upd_wire.proofs.HeadLemmas.{error_says, nothing_has_head, refused_bad, refused_by_failure}
@@ -21,16 +23,22 @@ returns-in-Err-parse_request-clause-err g c =
     let few : length (c.head.buf.items ++ more) ≤ MAX_HEAD_BYTES = omega (arith, room, c.in-Ok.ensures.bound, length-append c.head.buf.items more) in
     let IsFew : List ℕ → Type 0 = λ l. length l ≤ MAX_HEAD_BYTES in
     let Exceeds : ℕ → Type 0 = λ n. RequestExceeds n buf in
-    refused_bad _ _ buf _ (subst Reads (sym items) consumed) (subst IsFew (sym items) few)
+    let Refused : List ℕ → Type 0 =
+    λ b. (input : List ℕ) × IsInput (g.R.Read.remaining c.args.reader.now) input × Begins input b × RefusesHead input c.of-in-Err-parse_request.result in
+    subst Refused c.deref.ensures.value (refused_bad _ _ buf _ (subst Reads (sym items) consumed) (subst IsFew (sym items) few)
     (error_says buf c.in-Err-parse_request.field-0 c.in-Err-parse_request.ensures.invalid
-    (λ e. subst Exceeds (c.head.auto.headers ∙ c.requires.room) (c.in-Err-parse_request.ensures.too_many (ap Err e)))) c.of-in-Err-parse_request.ensures
+    (λ e. subst Exceeds (c.head.auto.headers ∙ c.requires.room) (c.in-Err-parse_request.ensures.too_many (ap Err e)))) c.of-in-Err-parse_request.ensures)
 
 pub returns-clause-err : goal.returns-clause-err
 returns-clause-err g c =
     refused_bad _ _ c.head.buf.items _ c.head.invariant.consumed c.head.invariant.most (inr (inr (omega arith, c.head.invariant.none))) c.of-2.ensures
 
 pub returns-then-is_err-clause-err : goal.returns-then-is_err-clause-err
-returns-then-is_err-clause-err g c = refused_by_failure (g.R.Read.remaining c.args.reader.now) c.of.result (inl c.of.ensures)
+returns-then-is_err-clause-err g c =
+    let same : c.extend_from_slice.new.self.items ≡ c.head.buf.items = rw c.if-is_err.ensures.negation at c.extend_from_slice.ensures.items in
+    let Refused : List ℕ → Type 0 =
+    λ b. (input : List ℕ) × IsInput (g.R.Read.remaining c.args.reader.now) input × Begins input b × RefusesHead input c.of.result in
+    subst Refused (sym same) (refused_by_failure _ _ c.head.buf.items c.of.result c.head.invariant.consumed (inl c.of.ensures))
 
 pub returns-in-Err-clause-err : goal.returns-in-Err-clause-err
-returns-in-Err-clause-err g c = refused_by_failure (g.R.Read.remaining c.args.reader.now) c.silent-in-Err.result (inr c.silent-in-Err.ensures)
+returns-in-Err-clause-err g c = refused_by_failure _ _ c.head.buf.items c.silent-in-Err.result c.head.invariant.consumed (inr c.silent-in-Err.ensures)

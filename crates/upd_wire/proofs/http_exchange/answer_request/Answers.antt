@@ -1,17 +1,25 @@
-use Rattle.std.proofs.Common.{None, Err, ℕ, List, refl, subst}
+use Rattle.std.proofs.Common.{None, Err, Result, ℕ, List, refl, sym, subst}
 use Rattle.upd_wire.specs.Calls.{asked}
+use Rattle.upd_wire.specs.LogLines.{IsAskOf, asked_of}
 use Rattle.upd_wire.specs.Requests.{IsRead}
 use Rattle.upd_wire.specs.AnswerViews.{answer_seen}
-use Rattle.upd_wire.proofs.AnswerLemmas.{answers_call, answers_refusal}
+use Rattle.upd_wire.specs.declared.call.DeskCall.{DeskCall}
+use Rattle.upd_wire.specs.declared.call.Refusal.{Refusal}
+use Rattle.upd_wire.proofs.AnswerLemmas.{answers_call, answers_refusal, asks_of}
 use Rattle.upd_wire.proofs.http_exchange.answer_request.Goals as goal
 
 pub returns-in-Ok : goal.returns-in-Ok
 returns-in-Ok g c =
     let (made, leads, asks) = c.ask.ensures in
-    (made, leads, λ input says. answers_call input (asked c.in-Ok.call) made (answer_seen c.ask.result) (subst (IsRead asked input) c.in-Ok.is says) asks)
+    let Asks : Result DeskCall Refusal → Type 0 = λ request. IsAskOf (asked_of request) made in (
+      made,
+      leads,
+      subst Asks (sym c.in-Ok.is) (asks_of (asked c.in-Ok.call) made (answer_seen c.ask.result) asks),
+      λ input says. answers_call input (asked c.in-Ok.call) made (answer_seen c.ask.result) (subst (IsRead asked input) c.in-Ok.is says) asks,
+    )
 
 pub returns-in-Err : goal.returns-in-Err
 returns-in-Err g c =
-    let is_read : (input : List ℕ) → IsRead asked input c.args.request → IsRead asked input (Err c.in-Err.refusal) =
+    let is_read : (input : List ℕ) → IsRead asked input c.args.request.now → IsRead asked input (Err c.in-Err.refusal) =
     λ input. subst (IsRead asked input) c.in-Err.is in
-    (None, refl, λ input says. answers_refusal input c.in-Err.refusal c.refusal.result (is_read input says) c.refusal.ensures.ok c.refusal.ensures.err)
+    (None, refl, tt, λ input says. answers_refusal input c.in-Err.refusal c.refusal.result (is_read input says) c.refusal.ensures.ok c.refusal.ensures.err)

@@ -2,7 +2,8 @@ use Rattle.std.proofs.Common.{None, Err, inl, inr, refl}
 use Rattle.std.proofs.KnownBytes.{Appends-nil}
 use Rattle.upd_wire.proofs.InputLemmas.{some_input}
 use Rattle.upd_wire.specs.Serving.{no_memory}
-use Rattle.upd_wire.proofs.AnswerLemmas.{fault_is, sends_as}
+use Rattle.upd_wire.specs.AnswerViews.{answer_seen}
+use Rattle.upd_wire.proofs.AnswerLemmas.{fault_is}
 use Rattle.upd_wire.proofs.http_exchange.serve_one.Goals as goal
 
 pub returns-in_err-routes : goal.returns-in_err-routes
@@ -15,7 +16,7 @@ returns-in_err-routes g c =
       (input, is, inr (inr (refl, inr (inl refl)))),
     )
 
-pub returns-in-Ok : goal.returns-in-Ok
-returns-in-Ok g c =
-    let (made, answer, leads, sends, answers) = c.in-Ok.ensures in
-    (made, answer, leads, sends_as (λ x. tt) answer _ _ _ sends, answers)
+pub returns : goal.returns
+returns g c =
+    let (made, input, leads, is, exchanges, sends) = c.serve_request-sent.ensures in
+    (made, answer_seen c.serve_request-sent.result.0.answer, leads, sends, (input, is, exchanges.answers))

@@ -1,4 +1,4 @@
-use Rattle.std.proofs.Common.{ap, sym, ◌∙◌, subst, drop, List, ℕ, ◌++◌, Result, Vec, Global}
+use Rattle.std.proofs.Common.{ap, sym, refl, ◌∙◌, subst, drop, List, ℕ, ◌++◌, Result, Vec, Global}
 use Rattle.std.proofs.lemmas.List.{take_rest}
 use Rattle.httparse.specs.Spans.{IsRequestAt}
 use Rattle.upd_wire.proofs.InputLemmas.{input_behind, some_input}
@@ -8,7 +8,7 @@ use Rattle.upd_wire.specs.RequestViews.{head_view}
 use Rattle.upd_wire.specs.declared.call.DeskCall.{DeskCall}
 use Rattle.upd_wire.specs.declared.call.Refusal.{Refusal}
 use Rattle.upd_wire.proofs.RequestLemmas.{HasRead, body_refused, call_read, checked_refused, error_is}
-use Rattle.upd_wire.proofs.request.read_call.Goals as goal
+use Rattle.upd_wire.proofs.request.read_request.Goals as goal
 
 abbrev Bytes : Type 0
 Bytes = Vec ℕ Global
@@ -35,6 +35,7 @@ returns-in_err-head g c =
     let IsGiven : Result DeskCall Refusal → Type 0 = λ result. IsRead asked (buf ++ rest) result in (
       buf ++ rest,
       input_behind old new buf rest c.in_ok-spans.ensures.bytes left,
+      (rest, refl),
       subst IsGiven (sym (error_is result refusal c.from_residual-in_err-head.ensures.1))
           (checked_refused asked head_view buf headers spans h r refusal (c.in_err-head.ensures h there) rest),
     )
@@ -62,6 +63,7 @@ returns-in_err-body g c =
     let IsGiven : Result DeskCall Refusal → Type 0 = λ result. IsRead asked (buf ++ rest) result in (
       buf ++ rest,
       input_behind old new buf rest c.in_ok-spans.ensures.bytes left,
+      (rest, refl),
       subst IsGiven (sym (error_is result refusal c.from_residual-in_err-body.ensures.1))
           (body_refused asked (λ (b : Bytes). b.items) buf headers spans h r w (c.in_ok-head.ensures h there) _
           (take_rest c.deref-2.result.now spans.len ∙ ap (drop spans.len) c.deref-2.ensures.value) refusal rest gives),
@@ -87,6 +89,7 @@ returns g c =
     let (rest, left, whole) = c.in_ok-body.ensures in (
       buf ++ rest,
       input_behind old new buf rest c.in_ok-spans.ensures.bytes left,
+      (rest, refl),
       call_read asked (λ (b : Bytes). b.items) buf headers spans h r w (c.in_ok-head.ensures h there) _
           (take_rest c.deref-2.result.now spans.len ∙ ap (drop spans.len) c.deref-2.ensures.value) c.in_ok-body.body rest whole
           c.call_of.result c.call_of.ensures,

@@ -1,0 +1,8 @@
+use Rattle.std.proofs.Common.{◌≡◌, drop, length}
+use Rattle.std.specs.List.{fold}
+use Rattle.upd_views.specs.SiteLines.{both}
+use Rattle.upd_keep.specs.Examining.{reply_bytes}
+use Rattle.upd_keep.proofs.file_examination.reply_bytes.Given as goal
+
+abbrev pub invariant-loop-run : goal.invariant-loop-run
+invariant-loop-run l = fold (λ count r. both count (length r.reply)) l.count (drop l.run-index l.runs) ≡ reply_bytes l.runs

@@ -1,0 +1,14 @@
+use Rattle.std.proofs.Common.{◌≡◌, ◌++◌, Result, sym, ap₂, ◌∙◌, subst}
+use Rattle.upd_text.specs.declared.fault.Fault.{Fault}
+use Rattle.upd_wire.specs.AnswerViews.{answer_seen}
+use Rattle.upd_wire.specs.Serving.{Puts, Sends}
+use Rattle.upd_wire.specs.declared.http_answer.Answer.{Answer}
+use Rattle.upd_wire.proofs.http_exchange.Exchange.send.Goals as goal
+
+pub returns-in-Ok : goal.returns-in-Ok
+returns-in-Ok g c =
+    let old = g.W.Write.contents c.args.writer.now in
+    let new = g.W.Write.contents c.send.new.writer in
+    let IsSent : Result Answer Fault → Type 0 = λ answer. Sends (answer_seen answer) c.send.result old new in
+    subst IsSent (sym c.in-Ok.is) (subst (Puts c.send.result old new) (ap₂ (λ a b. a ++ b) (c.deref.ensures.value
+    ∙ c.write_head.ensures) c.deref-in-Ok.ensures.value) c.send.ensures)

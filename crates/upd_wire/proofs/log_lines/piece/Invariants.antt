@@ -1,0 +1,6 @@
+use Rattle.std.proofs.Common.{◌≡◌, ◌+◌, ℕ}
+use Rattle.upd_wire.specs.LogLines.{piece}
+use Rattle.upd_wire.proofs.log_lines.piece.Given as goal
+
+abbrev pub invariant-pieces : goal.invariant-pieces
+invariant-pieces l = (n : ℕ) → piece l.separator n l.rest ≡ piece l.separator (l.counter + n) l.text
