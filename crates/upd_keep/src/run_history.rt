@@ -1,11 +1,12 @@
 //! The rows of a library, with its stored runs in the order in which they were stored.
-ghost use Rattle.std.specs.Prelude.{◌≡◌, false, IfOk, IsTrue};
+ghost use Rattle.std.specs.Prelude.{◌≡◌, false, IfOk};
 ghost use Rattle.sqlite.specs.Held.{state};
-ghost use Rattle.sqlite.specs.State.{HasCleanDisk, Survives};
+ghost use Rattle.sqlite.specs.State.{HasCleanDisk};
 ghost use Rattle.upd_records.specs.Rows.{Rows};
 ghost use Rattle.upd_sql.specs.Commits.{Inside, Looks};
 ghost use Rattle.upd_sql.specs.LibraryTables.{ShowsTables};
 ghost use Rattle.upd_keep.specs.Examining.{Reads};
+ghost use Rattle.upd_keep.specs.Keeping.{LooksUp};
 ghost use Rattle.upd_keep.specs.Replaying.{AreInTurn, AreStoredTables};
 
 use crate::kept::Kept;
@@ -36,14 +37,7 @@ fn history_in<S: Alter>(tx: &mut Transaction<'_, S>, alloc: Global) -> Result<Ke
 /// The same, read in a transaction that is rolled back.
 fn stored_history<S: Rising>(conn: &mut Connection<S>, alloc: Global) -> Result<Kept, Error>
     requires { conn.old.in_transaction ≡ false }
-    ensures outside { conn.new.in_transaction ≡ false }
-    ensures was_open { HasCleanDisk (state S.Store conn.new) → IsTrue (state S.Store conn.new).is_open
-        → IsTrue (state S.Store conn.old).is_open }
-    ensures same { HasCleanDisk (state S.Store conn.new) → IsTrue (state S.Store conn.new).is_open
-        → (state S.Store conn.new).committed ≡ (state S.Store conn.old).committed }
-    ensures survives { Survives (state S.Store conn.old) (state S.Store conn.new) (λ _. ⊥) }
-    ensures found { HasCleanDisk (state S.Store conn.new) → IfOk result
-        (λ kept. (it : Rows) → ShowsTables it (state S.Store conn.old).committed → AreInTurn it kept) }
+    ensures { LooksUp AreInTurn result (state S.Store conn.old) (state S.Store conn.new) }
 {
     let mut tx = begin(conn);
     let kept = history_in(&mut tx, alloc)?;

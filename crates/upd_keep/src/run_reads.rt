@@ -1,12 +1,9 @@
 //! What is stored, read in a transaction that is rolled back.
-ghost use Rattle.std.specs.Prelude.{◌≡◌, false, IfErr, IfOk, IsTrue};
+ghost use Rattle.std.specs.Prelude.{◌≡◌, false, IfErr};
 ghost use Rattle.sqlite.specs.Held.{state};
-ghost use Rattle.sqlite.specs.State.{HasCleanDisk, Survives};
-ghost use Rattle.upd_records.specs.Rows.{Rows};
 ghost use Rattle.upd_row_store.specs.Keeping.{IsLost};
 ghost use Rattle.upd_sql.specs.Commits.{Inside, Looks};
-ghost use Rattle.upd_sql.specs.LibraryTables.{ShowsTables};
-ghost use Rattle.upd_keep.specs.Keeping.{AreKept, HasRunLines, HasSiteLines};
+ghost use Rattle.upd_keep.specs.Keeping.{AreKept, HasRunLines, HasSiteLines, LooksUp};
 
 use crate::kept::Kept;
 use sqlite::{Alter, Connection, Error, Transaction};
@@ -29,14 +26,7 @@ fn kept_in<S: Alter>(tx: &mut Transaction<'_, S>, alloc: Global) -> Result<Kept,
 /// The stored runs by site and number, and the marks by site. Nothing changes.
 pub fn stored_kept<S: Rising>(conn: &mut Connection<S>, alloc: Global) -> Result<Kept, Error>
     requires { conn.old.in_transaction ≡ false }
-    ensures outside { conn.new.in_transaction ≡ false }
-    ensures was_open { HasCleanDisk (state S.Store conn.new) → IsTrue (state S.Store conn.new).is_open
-        → IsTrue (state S.Store conn.old).is_open }
-    ensures same { HasCleanDisk (state S.Store conn.new) → IsTrue (state S.Store conn.new).is_open
-        → (state S.Store conn.new).committed ≡ (state S.Store conn.old).committed }
-    ensures survives { Survives (state S.Store conn.old) (state S.Store conn.new) (λ _. ⊥) }
-    ensures found { HasCleanDisk (state S.Store conn.new) → IfOk result
-        (λ kept. (it : Rows) → ShowsTables it (state S.Store conn.old).committed → AreKept it kept) }
+    ensures { LooksUp AreKept result (state S.Store conn.old) (state S.Store conn.new) }
 {
     let mut tx = begin(conn);
     let kept = kept_in(&mut tx, alloc)?;
@@ -46,12 +36,7 @@ pub fn stored_kept<S: Rising>(conn: &mut Connection<S>, alloc: Global) -> Result
 
 /// The same, outside of a transaction. The fault is NoMemory or Store, at 0.
 fn kept<S: Rising>(alloc: Global, conn: &mut Connection<S>) -> Result<Kept, Fault>
-    ensures found { HasCleanDisk (state S.Store conn.new) → IfOk result
-        (λ kept. (it : Rows) → ShowsTables it (state S.Store conn.old).committed → AreKept it kept) }
-    ensures same { HasCleanDisk (state S.Store conn.new) → IsTrue (state S.Store conn.new).is_open
-        → (state S.Store conn.new).committed ≡ (state S.Store conn.old).committed }
-    ensures mode { conn.new.in_transaction ≡ conn.old.in_transaction }
-    ensures survives { Survives (state S.Store conn.old) (state S.Store conn.new) (λ _. ⊥) }
+    ensures looks { LooksUp AreKept result (state S.Store conn.old) (state S.Store conn.new) }
     ensures lost { IfErr result IsLost }
 {
     if !conn.is_autocommit() {
@@ -66,12 +51,7 @@ fn kept<S: Rising>(alloc: Global, conn: &mut Connection<S>) -> Result<Kept, Faul
 /// The line of each stored run, by site and number. Nothing changes. The fault is NoMemory or Store, at 0; it is Store
 /// inside a transaction, and where the connection has no tables of a library.
 pub fn runs_text<S: Rising>(alloc: Global, conn: &mut Connection<S>) -> Result<Vec<u8>, Fault>
-    ensures found { HasCleanDisk (state S.Store conn.new) → IfOk result (λ text. (it : Rows)
-        → ShowsTables it (state S.Store conn.old).committed → HasRunLines it text.items) }
-    ensures same { HasCleanDisk (state S.Store conn.new) → IsTrue (state S.Store conn.new).is_open
-        → (state S.Store conn.new).committed ≡ (state S.Store conn.old).committed }
-    ensures mode { conn.new.in_transaction ≡ conn.old.in_transaction }
-    ensures survives { Survives (state S.Store conn.old) (state S.Store conn.new) (λ _. ⊥) }
+    ensures looks { LooksUp (λ it text. HasRunLines it text.items) result (state S.Store conn.old) (state S.Store conn.new) }
     ensures lost { IfErr result IsLost }
 {
     let kept = kept(alloc, conn)?;
@@ -84,12 +64,7 @@ pub fn runs_text<S: Rising>(alloc: Global, conn: &mut Connection<S>) -> Result<V
 /// The line of each site that has a stored run or a mark, by the names of the sites. Nothing changes. The faults are
 /// those of `runs_text`.
 pub fn sites_text<S: Rising>(alloc: Global, conn: &mut Connection<S>) -> Result<Vec<u8>, Fault>
-    ensures found { HasCleanDisk (state S.Store conn.new) → IfOk result (λ text. (it : Rows)
-        → ShowsTables it (state S.Store conn.old).committed → HasSiteLines it text.items) }
-    ensures same { HasCleanDisk (state S.Store conn.new) → IsTrue (state S.Store conn.new).is_open
-        → (state S.Store conn.new).committed ≡ (state S.Store conn.old).committed }
-    ensures mode { conn.new.in_transaction ≡ conn.old.in_transaction }
-    ensures survives { Survives (state S.Store conn.old) (state S.Store conn.new) (λ _. ⊥) }
+    ensures looks { LooksUp (λ it text. HasSiteLines it text.items) result (state S.Store conn.old) (state S.Store conn.new) }
     ensures lost { IfErr result IsLost }
 {
     let kept = kept(alloc, conn)?;
