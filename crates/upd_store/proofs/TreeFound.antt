@@ -38,7 +38,6 @@ use Rattle.upd_sql.specs.Schema.{library_schema}
 use Rattle.upd_store.specs.TreeOpening.{FindsTrees, IsAttached}
 use Rattle.upd_store.proofs.OneLayout.{one_layout}
 
-
 module _ {D : Type 0} {g : Ghosts D} (old : Unopened D g) (opened : FileStore D g) (it : IsAttached old opened)
     (lists : Lists ((view opened).trees catalog_tree) library_schema) where
   abbrev size : ℕ
