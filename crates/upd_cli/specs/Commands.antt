@@ -99,13 +99,14 @@ module _ {D : Type 0} (g : DiskGhosts D) (held : Image) where
   IsBackedUp status faults faults' =
       (ended : Result (Unit {0}) Fault) × BacksUp g held ended × EndsSilently ended status faults faults'
 
--- The store over the file: its meaning, its connection, and what the file held before.
+-- The stores over the file, through SQL and below it: the meaning of each, its connection or its trees, and what the file held when it was opened so.
 module _ {S D : Type 0} {g : DiskGhosts D} (meaning : Ghosts S) (conn_of : S → Held (FileStore D g)) (held : Image)
+    {T B : Type 0} {b : DiskGhosts B} (below : Ghosts T) (store_of : T → FileStore B b) (first : Image)
     {R W E : Type 0} (input : Stream R) (output : Stream W) (faults : Stream E) where
   -- a command on the library in the file ended, and the fault stream and the status tell how
   abbrev pub IsCarriedOut : Command → ℕ → Type 0
   IsCarriedOut command status = (ended : Result ℕ Fault) × (mid : E)
-      × Leaves meaning conn_of held input output (record faults { new = mid }) command ended
+      × Leaves meaning conn_of held below store_of first input output (record faults { new = mid }) command ended
       × IsEndOf ended status (faults.bytes mid) (after faults)
 
   -- nothing went to the output

@@ -5,7 +5,7 @@ ghost use Rattle.upd_cli.specs.Commands.{Carries, IsInitialized, RunsCommand};
 ghost use Rattle.upd_subcommands.specs.Inputs.{IsOf, IsSpool, UsesFaults, ReadsFor, WritesRefusals, most_read_for};
 ghost use Rattle.upd_subcommands.specs.Streams.{TakesFront, stream};
 
-use crate::desk_work::{FileRows, on_library};
+use crate::desk_work::{FileRows, TreeRows, on_library};
 use crate::examined::report_on;
 use crate::library_file::{backup_file, init_file, migrate_file};
 use crate::replay_report::replay_on;
@@ -33,16 +33,19 @@ pub fn run_command<S: AsStr, R: Read, W: Write, E: Write>(
     faults: &mut E,
 ) -> u8
     ensures { RunsCommand ⟦<FileRows<Unknown> as Meaning>⟧ (λ rows. rows.inner.conn) (image_at ⟦<Unknown as Start>⟧)
+        ⟦<TreeRows<Unknown> as Meaning>⟧ (λ rows. rows.inner.store) (image_at ⟦<Unknown as Start>⟧)
         (stream R.remaining input.old input.new) (stream W.contents output.old output.new)
         (stream E.contents faults.old faults.new) (map S.text words.entry.now) result }
 {
-    run_command_from(rt, Unknown, words, input, output, faults)
+    run_command_from(rt, Unknown, Unknown, words, input, output, faults)
 }
 
-/// `run_command` where the file and its log held this when they are opened. No code can read it: it is there for the
-/// contract, which says what a command does with a library that a file holds. `Unknown` stands for any contents.
-pub fn run_command_from<St: Start, S: AsStr, R: Read, W: Write, E: Write>(
+/// `run_command` where the file and its log held this when they are opened: `start` through SQL, and `first` before that, below
+/// SQL, for a command that only reads. No code can read these: they are there for the contract, which says what a command
+/// does with a library that a file holds. `Unknown` stands for any contents.
+pub fn run_command_from<Fi: Start, St: Start, S: AsStr, R: Read, W: Write, E: Write>(
     rt: &HostRuntime,
+    first: Fi,
     start: St,
     words: &[S],
     input: &mut R,
@@ -50,18 +53,20 @@ pub fn run_command_from<St: Start, S: AsStr, R: Read, W: Write, E: Write>(
     faults: &mut E,
 ) -> u8
     ensures { RunsCommand ⟦<FileRows<St> as Meaning>⟧ (λ rows. rows.inner.conn) (image_at St.Start)
+        ⟦<TreeRows<Fi> as Meaning>⟧ (λ rows. rows.inner.store) (image_at Fi.Start)
         (stream R.remaining input.old input.new) (stream W.contents output.old output.new)
         (stream E.contents faults.old faults.new) (map S.text words.entry.now) result }
 {
     match read_words(rt.alloc(), words) {
-        Ok(request) => carry_out(rt, start, &request, input, output, faults),
+        Ok(request) => carry_out(rt, first, start, &request, input, output, faults),
         Err(fault) => finish(Err(fault), faults),
     }
 }
 
 /// Carries out what the words of a command line ask for, and returns the exit status.
-fn carry_out<St: Start, R: Read, W: Write, E: Write>(
+fn carry_out<Fi: Start, St: Start, R: Read, W: Write, E: Write>(
     rt: &HostRuntime,
+    first: Fi,
     start: St,
     request: &Request<'_>,
     input: &mut R,
@@ -69,6 +74,7 @@ fn carry_out<St: Start, R: Read, W: Write, E: Write>(
     faults: &mut E,
 ) -> u8
     ensures done { Carries ⟦<FileRows<St> as Meaning>⟧ (λ rows. rows.inner.conn) (image_at St.Start)
+        ⟦<TreeRows<Fi> as Meaning>⟧ (λ rows. rows.inner.store) (image_at Fi.Start)
         (stream R.remaining input.old input.new) (stream W.contents output.old output.new)
         (stream E.contents faults.old faults.new) request.now result }
     ensures front { ¬ IsOf IsSpool request.now
@@ -84,7 +90,7 @@ fn carry_out<St: Start, R: Read, W: Write, E: Write>(
         }
         Request::Init(file) => carry_out_init(rt, file, start, faults),
         Request::Library { file, command } => {
-            let ended = on_library(rt, file, start, command, input, output, faults);
+            let ended = on_library(rt, file, first, start, command, input, output, faults);
             finish_with(ended, faults)
         }
         Request::Runs(file) => {

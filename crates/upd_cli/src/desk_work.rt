@@ -2,21 +2,21 @@
 ghost use Rattle.std.specs.Prelude.{◌≡◌, ◌⊎◌, ◌+◌, IfErr, IfOk, None};
 ghost use Rattle.sqlite_wal.specs.Files.{image_at};
 ghost use Rattle.upd_cli.specs.Opened.{Closes, IsWarmed};
-ghost use Rattle.upd_cli.specs.Works.{Begins, Leaves, LeavesFrom, Runs};
+ghost use Rattle.upd_cli.specs.Works.{Begins, Leaves, LeavesDesk, LeavesFrom, OnlyReads, Runs};
 ghost use Rattle.upd_subcommands.specs.Inputs.{HandsRuns, IsSpool, UsesFaults, ReadsFirst, WritesRefusals, most_read};
 ghost use Rattle.upd_subcommands.specs.Status.{exit_status};
 ghost use Rattle.upd_subcommands.specs.Streams.{TakesFront, stream};
 
 use crate::library_file::closed;
-use sqlite::{FileStore, Files, Start};
+use sqlite::{FileFrom, FileStore, Files, Start};
 use sqlite_disk::Disk;
 use std::alloc::Global;
 use std::io::{Read, Write};
 use upd_desk::Desk;
 use upd_memory::MirrorStore;
 use upd_row_store::{Meaning, RowStore};
-use upd_store::SqlStore;
 use upd_store::file::FileLibrary;
+use upd_store::{SqlStore, TreeStore};
 use upd_subcommands::{carry_out_at, correct_listing, read_first, read_listing};
 use upd_text::Fault;
 use upd_words::Command;
@@ -24,11 +24,15 @@ use upd_words::Command;
 /// The library in a file, with its rows in memory once they were read: by `warm`, or in a commit after the first.
 pub(crate) type FileRows<St> = MirrorStore<FileLibrary<St>>;
 
+/// The library in a file that was opened below SQL, for reading.
+pub(crate) type TreeRows<Fi> = MirrorStore<TreeStore<FileStore<FileFrom<Fi>>>>;
+
 /// Carries out a command on the library in a file, and returns the exit status. What `try` and `correct` read is read
 /// before the file is opened.
-pub(crate) fn on_library<St: Start, R: Read, W: Write, E: Write>(
+pub(crate) fn on_library<Fi: Start, St: Start, R: Read, W: Write, E: Write>(
     rt: &HostRuntime,
     file: &str,
+    first: Fi,
     start: St,
     command: &Command<'_>,
     input: &mut R,
@@ -36,6 +40,7 @@ pub(crate) fn on_library<St: Start, R: Read, W: Write, E: Write>(
     faults: &mut E,
 ) -> Result<u8, Fault>
     ensures leaves { Leaves ⟦<FileRows<St> as Meaning>⟧ (λ rows. rows.inner.conn) (image_at St.Start)
+        ⟦<TreeRows<Fi> as Meaning>⟧ (λ rows. rows.inner.store) (image_at Fi.Start)
         (stream R.remaining input.old input.new) (stream W.contents output.old output.new)
         (stream E.contents faults.old faults.new) command.now result }
     ensures front { ¬ IsSpool command.now → TakesFront (most_read command.now) (R.remaining input.old) (R.remaining input.new) }
@@ -48,15 +53,18 @@ pub(crate) fn on_library<St: Start, R: Read, W: Write, E: Write>(
     ensures quiet { IfErr result (λ _. ¬ UsesFaults command.now → faults.new ≡ faults.old) }
 {
     match read_first(rt.alloc(), command, input) {
-        Ok(text) => with_text(rt, file, start, command, &text, input, output, faults),
+        Ok(text) => with_text(
+            rt, file, first, start, command, &text, input, output, faults,
+        ),
         Err(fault) => Err(fault),
     }
 }
 
 /// The same, once the text is read that is read first. The file of `correct` may have a listing in place of a library.
-fn with_text<St: Start, R: Read, W: Write, E: Write>(
+fn with_text<Fi: Start, St: Start, R: Read, W: Write, E: Write>(
     rt: &HostRuntime,
     file: &str,
+    first: Fi,
     start: St,
     command: &Command<'_>,
     text: &[u8],
@@ -65,6 +73,7 @@ fn with_text<St: Start, R: Read, W: Write, E: Write>(
     faults: &mut E,
 ) -> Result<u8, Fault>
     ensures { LeavesFrom ⟦<FileRows<St> as Meaning>⟧ (λ rows. rows.inner.conn) (image_at St.Start)
+        ⟦<TreeRows<Fi> as Meaning>⟧ (λ rows. rows.inner.store) (image_at Fi.Start)
         (stream R.remaining input.old input.new) (stream W.contents output.old output.new)
         (stream E.contents faults.old faults.new) command.now text.now result }
 {
@@ -73,17 +82,48 @@ fn with_text<St: Start, R: Read, W: Write, E: Write>(
             Ok(Some(listing)) => {
                 Ok(correct_listing(rt.alloc(), &listing, set, text, output, faults))
             }
-            Ok(None) => at_desk(rt, file, start, command, text, input, output, faults),
+            Ok(None) => at_trees(rt, file, first, start, command, text, input, output, faults),
             Err(fault) => Err(fault),
         },
+        Command::Try { .. } | Command::Ask(_) => {
+            at_trees(rt, file, first, start, command, text, input, output, faults)
+        }
         _ => at_desk(rt, file, start, command, text, input, output, faults),
+    }
+}
+
+/// Carries out a command that only reads at a desk over the trees of the library in a file, and returns the exit status.
+/// A file that is not opened so is opened through SQL.
+fn at_trees<Fi: Start, St: Start, R: Read, W: Write, E: Write>(
+    rt: &HostRuntime,
+    file: &str,
+    first: Fi,
+    start: St,
+    command: &Command<'_>,
+    text: &[u8],
+    input: &mut R,
+    output: &mut W,
+    faults: &mut E,
+) -> Result<u8, Fault>
+    requires { OnlyReads command.now }
+    ensures { LeavesFrom ⟦<FileRows<St> as Meaning>⟧ (λ rows. rows.inner.conn) (image_at St.Start)
+        ⟦<TreeRows<Fi> as Meaning>⟧ (λ rows. rows.inner.store) (image_at Fi.Start)
+        (stream R.remaining input.old input.new) (stream W.contents output.old output.new)
+        (stream E.contents faults.old faults.new) command.now text.now result }
+{
+    match TreeStore::open(rt, file, first) {
+        Some(library) => {
+            let (ended, _) = with_library(rt, library, command, text, input, output, faults);
+            ended
+        }
+        None => at_desk(rt, file, start, command, text, input, output, faults),
     }
 }
 
 /// Carries out a command at the desk of the library in a file, and returns the exit status. The fault is
 /// `SqlStore::open`'s where the file can't be opened; then nothing is read or written.
 ///
-/// No other function opens the store of a desk. One that names it is dear to prove (docs/DECISIONS.md, D-100).
+/// Beside `at_trees` no other function opens the store of a desk. One that names it is dear to prove (docs/DECISIONS.md, D-100).
 fn at_desk<St: Start, R: Read, W: Write, E: Write>(
     rt: &HostRuntime,
     file: &str,
@@ -94,7 +134,7 @@ fn at_desk<St: Start, R: Read, W: Write, E: Write>(
     output: &mut W,
     faults: &mut E,
 ) -> Result<u8, Fault>
-    ensures { LeavesFrom ⟦<FileRows<St> as Meaning>⟧ (λ rows. rows.inner.conn) (image_at St.Start)
+    ensures { LeavesDesk ⟦<FileRows<St> as Meaning>⟧ (λ rows. rows.inner.conn) (image_at St.Start)
         (stream R.remaining input.old input.new) (stream W.contents output.old output.new)
         (stream E.contents faults.old faults.new) command.now text.now result }
 {

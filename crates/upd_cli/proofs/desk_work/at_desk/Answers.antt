@@ -23,6 +23,6 @@ returns-in-Ok g c =
 
 pub returns-in-Err : goal.returns-in-Err
 returns-in-Err g c = record {
-  leaves = inr (inr (c.in-Err.ensures.unopened, refl, refl, refl));
+  leaves = inr (c.in-Err.ensures.unopened, refl, refl, refl);
   frames = untouched_frames _ _ _ c.args.command.now c.in-Err.fault (unopened_fails c.in-Err.fault c.in-Err.ensures.unopened) refl refl refl;
 }
