@@ -17,15 +17,18 @@ use Rattle.upd_subcommands.specs.Inputs.{Frames, IsFirstRead, ReadsFirst}
 use Rattle.upd_subcommands.specs.ListingFile.{CorrectsListed}
 use Rattle.upd_subcommands.specs.Streams.{Stream, after, before}
 use Rattle.upd_words.specs.declared.words.Command.{Command}
-use Rattle.upd_words.specs.declared.words.Command.TheVariants.{Ask, Correct, Serve, Try}
+use Rattle.upd_words.specs.declared.words.Command.TheVariants.{Ask, Correct, CorrectParts, Run, Serve, Spool, Try}
 use Rattle.upd_cli.specs.Opened.{IsWarmed, OnFile}
 
 -- the ending with this status and these streams
 abbrev pub ending_of : {W E : Type 0} → ℕ → Stream W → Stream E → Ending
 ending_of status output faults = ending status (before output) (after output) (before faults) (after faults)
 
--- before connections are served the rows are read into memory
+-- before runs are handed in the rows are read into memory
 abbrev pub Begins : {S : Type 0} → Ghosts S → Command → S → S → Type 0
+Begins meaning (Run site number mode) old begun = IsWarmed meaning old begun
+Begins meaning Spool old begun = IsWarmed meaning old begun
+Begins meaning (Try mode) old begun = IsWarmed meaning old begun
 Begins meaning (Serve address count) old begun = IsWarmed meaning old begun
 Begins meaning _ old begun = begun ≡ old
 
@@ -49,6 +52,7 @@ module _ {S : Type 0} (meaning : Ghosts S) {R W E : Type 0} (input : Stream R) (
 -- it only reads the library
 abbrev pub OnlyReads : Command → Type 0
 OnlyReads (Correct set) = Unit {0}
+OnlyReads (CorrectParts set site number mode) = Unit {0}
 OnlyReads (Try mode) = Unit {0}
 OnlyReads (Ask query) = Unit {0}
 OnlyReads _ = ⊥

@@ -85,7 +85,7 @@ fn with_text<Fi: Start, St: Start, R: Read, W: Write, E: Write>(
             Ok(None) => at_trees(rt, file, first, start, command, text, input, output, faults),
             Err(fault) => Err(fault),
         },
-        Command::Try { .. } | Command::Ask(_) => {
+        Command::CorrectParts { .. } | Command::Try { .. } | Command::Ask(_) => {
             at_trees(rt, file, first, start, command, text, input, output, faults)
         }
         _ => at_desk(rt, file, start, command, text, input, output, faults),
@@ -190,12 +190,15 @@ fn with_library<S: RowStore, R: Read, W: Write, E: Write>(
     (ended, desk.close().into_inner())
 }
 
-/// Reads the rows into memory before connections are served, if they can be had.
+/// Reads the rows into memory before runs are handed in, if they can be had: a run asks for them more than once.
 fn begin<S: RowStore>(alloc: Global, rows: &mut MirrorStore<S>, command: &Command<'_>)
     ensures { Begins ⟦<MirrorStore<S> as Meaning>⟧ command.now rows.old rows.new }
 {
     match command {
+        Command::Run { .. } => warm(alloc, rows),
+        Command::Spool => warm(alloc, rows),
         Command::Serve { .. } => warm(alloc, rows),
+        Command::Try { .. } => warm(alloc, rows),
         _ => {}
     }
 }
