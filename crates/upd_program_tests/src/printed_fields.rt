@@ -24,13 +24,15 @@ fn a_site_of_a_changed_row_is_printed_without_control_bytes(rt: HostRuntime) -> 
     session(&rt, "red-site", STEPS)
 }
 
+/// The reply `{"idents":["\u001b[31mX\nY"]}`.
+const RED_REPLY: &str =
+    "UPDATE runs SET reply = x'7b226964656e7473223a5b225c75303031625b33316d585c6e59225d7d'";
+
 #[test]
 fn a_reply_of_a_changed_row_is_printed_without_control_bytes(rt: HostRuntime) -> Result<(), Fail> {
     const STEPS: &[Step<'_>] = &[
         DECK,
-        Step::Changes(
-            "UPDATE runs SET reply = CAST('{\"idents\":[\"\\u001b[31mX\\nY\"]}' AS BLOB)",
-        ),
+        Step::Changes(RED_REPLY),
         Step::Writes("runs", &[], "LYON 1 quick accepted ?[31mX?Y\n"),
     ];
     session(&rt, "red-reply", STEPS)
