@@ -85,18 +85,18 @@ def main():
     if not upd.is_file():
         sys.exit(f"{upd} isn't there: `rt run` in crates/upd makes it")
     upd = upd.resolve()
-    commands = re.findall(r"^  ([a-z]+) ", said(upd, "--help").split("Options:")[0], re.M)
+    commands = re.findall(r"^  ([a-z-]+) ", said(upd, "--help").split("Options:")[0], re.M)
     page = (ROOT / "man/upd.1").read_text()
-    synopsis = dict(re.findall(r"^\.B upd ([a-z]+)\n\.I ([A-Z ]+)$", page, re.M))
+    synopsis = dict(re.findall(r"^\.B upd ([a-z-]+)\n\.I ([A-Z ]+)$", page, re.M))
     bash = (ROOT / "completions/upd.bash").read_text()
     zsh = (ROOT / "completions/_upd").read_text()
     fish = (ROOT / "completions/upd.fish").read_text()
     found = {
-        "man/upd.1, synopsis": re.findall(r"^\.B upd ([a-z]+)\n\.R?I ", page, re.M),
-        "man/upd.1, commands": re.findall(r'^\.B[IR] ([a-z]+) " ', page, re.M),
-        "upd.bash": re.search(r'commands="([a-z ]+)"', bash)[1].split(),
-        "_upd": re.findall(r"^        '([a-z]+):", zsh, re.M),
-        "upd.fish": re.findall(r"-a ([a-z]+) -d", fish),
+        "man/upd.1, synopsis": re.findall(r"^\.B upd ([a-z-]+)\n\.R?I ", page, re.M),
+        "man/upd.1, commands": re.findall(r'^\.B[IR] ([a-z-]+) " ', page, re.M),
+        "upd.bash": re.search(r'commands="([a-z -]+)"', bash)[1].split(),
+        "_upd": re.findall(r"^        '([a-z-]+):", zsh, re.M),
+        "upd.fish": re.findall(r"-a ([a-z-]+) -d", fish),
     }
     wrong = [where for where, names in found.items() if names != commands]
     if said(upd, "help") != said(upd, "--help"):

@@ -96,7 +96,7 @@ correct() {
 # The site's next number, and, unless it was given, a name for the set that nothing has.
 choose() {
     ask sites -- "$library" >"$work/sites" && ask idents -- "$library" >"$work/idents" || exit 3
-    number=$(sed -n "s/^$site [0-9]* [0-9]* //p" "$work/sites")
+    number=$(sed -n "s/^$site [0-9]* [0-9]* \\([^ ]*\\) .*/\\1/p" "$work/sites")
     number=${number:-1}
     if [ "$number" = none ]; then
         say "$site has no number left"
