@@ -102,13 +102,16 @@ fn new_decks_come_first(rt: HostRuntime) -> Result<(), Fail> {
         return Err("the text is refused".into());
     };
     same("the number of runs", runs.len(), 2)?;
+    let (Some(first), Some(second)) = (runs.first(), runs.get(1)) else {
+        return Err("there are no two runs".into());
+    };
     holds(
         "deck N comes first",
-        runs[0].starts_with(b"*IDENT Z1\n*COMDECK N\nNEW\n"),
+        first.starts_with(b"*IDENT Z1\n*COMDECK N\nNEW\n"),
     )?;
     same_text(
         "the second run",
-        text(&runs[1])?,
+        text(second)?,
         text_of(
             alloc,
             &[
