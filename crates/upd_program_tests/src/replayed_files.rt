@@ -60,7 +60,7 @@ fn a_settled_library_is_not_replayed(rt: HostRuntime) -> Result<(), Fail> {
 }
 
 /// Changes of the tables by hand, each with the line that it gets.
-fn differs(rt: &HostRuntime, changes: &[(&str, &str)]) -> Result<(), Fail> {
+fn differs<'a>(rt: &HostRuntime, changes: &[(&'a str, &'a str)]) -> Result<(), Fail> {
     for (sql, line) in changes {
         let answer = Step::Answers("replay", &[], "", (1, "", line));
         session(rt, "differing", &[SENT, Step::Changes(sql), answer])?;
