@@ -55,7 +55,7 @@ const LINES: &[(&str, &str)] = &[
     ),
     (
         "POST /sites/OSLO/settled/0 HTTP/1.1\r\n\r\n",
-        "POST /sites/OSLO/settled/0 - - 400 BadNumber",
+        "POST /sites/OSLO/settled/0 OSLO 0 400 BadNumber",
     ),
     ("GET /idents HTTP/1.1\r\n\r\n", "GET /idents - - 200 ok"),
     (
