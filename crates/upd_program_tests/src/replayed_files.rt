@@ -59,11 +59,22 @@ fn a_settled_library_is_not_replayed(rt: HostRuntime) -> Result<(), Fail> {
     session(&rt, "settled-replay", STEPS)
 }
 
-/// Changes of the tables by hand, each with the line that it gets.
-fn differs<'a>(rt: &HostRuntime, changes: &[(&'a str, &'a str)]) -> Result<(), Fail> {
+/// A change of the tables by hand gets this line.
+fn is_found(rt: &HostRuntime, sql: &str, line: &str) -> Result<(), Fail> {
+    let file = library(rt, "differing")?;
+    take_all(rt, &file, &[SENT])?;
+    take_all(rt, &file, &[Step::Changes(sql)])?;
+    take_all(
+        rt,
+        &file,
+        &[Step::Answers("replay", &[], "", (1, "", line))],
+    )?;
+    remove(rt, &file)
+}
+
+fn are_found(rt: &HostRuntime, changes: &[(&str, &str)]) -> Result<(), Fail> {
     for (sql, line) in changes {
-        let answer = Step::Answers("replay", &[], "", (1, "", line));
-        session(rt, "differing", &[SENT, Step::Changes(sql), answer])?;
+        is_found(rt, sql, line)?;
     }
     Ok(())
 }
@@ -104,7 +115,7 @@ fn a_changed_row_of_the_library_is_found(rt: HostRuntime) -> Result<(), Fail> {
             "upd: the tables are others: idents\n",
         ),
     ];
-    differs(&rt, CHANGES)
+    are_found(&rt, CHANGES)
 }
 
 /// One byte of the reply to run 4 is another: `\"at\":2`.
@@ -141,5 +152,5 @@ fn a_changed_stored_run_is_found(rt: HostRuntime) -> Result<(), Fail> {
             "upd: run LYON 3: the reply is another\n",
         ),
     ];
-    differs(&rt, CHANGES)
+    are_found(&rt, CHANGES)
 }
