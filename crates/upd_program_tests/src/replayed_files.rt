@@ -1,9 +1,10 @@
 //! What `replay` answers of libraries as runs have left them, and of such that were changed by hand.
-use crate::console::{library, remove};
+use crate::console::{ask, library, remove};
+use crate::file_changes::change;
 use crate::file_sessions::{Step, session, take_all};
 use std::fs;
 use std::test::Fail;
-use upd_testkit::check::holds;
+use upd_testkit::check::{holds, same, same_text};
 
 const REPLIES: &str =
     "{\"compile\":\"\",\"idents\":[\"A\"],\"lines\":0,\"mode\":\"quick\",\"run\":1,\"site\":\"LYON\",\
@@ -59,16 +60,21 @@ fn a_settled_library_is_not_replayed(rt: HostRuntime) -> Result<(), Fail> {
     session(&rt, "settled-replay", STEPS)
 }
 
+const SENT_ONLY: &[Step<'static>] = &[SENT];
+
+/// A replay of the library in this file gets this line.
+fn is_parted(rt: &HostRuntime, file: &str, line: &str) -> Result<(), Fail> {
+    let found = ask(rt, &["replay", file], &mut b"".as_slice())?;
+    same("the status", found.status, 1)?;
+    same_text("the faults", std::str::from_utf8(&found.faults)?, line)
+}
+
 /// A change of the tables by hand gets this line.
 fn is_found(rt: &HostRuntime, sql: &str, line: &str) -> Result<(), Fail> {
     let file = library(rt, "differing")?;
-    take_all(rt, &file, &[SENT])?;
-    take_all(rt, &file, &[Step::Changes(sql)])?;
-    take_all(
-        rt,
-        &file,
-        &[Step::Answers("replay", &[], "", (1, "", line))],
-    )?;
+    take_all(rt, &file, SENT_ONLY)?;
+    change(rt, &file, sql)?;
+    is_parted(rt, &file, line)?;
     remove(rt, &file)
 }
 
