@@ -1,11 +1,5 @@
 //! The number of decks that are read for a run: those that it needs, and none for a repeat.
 use crate::random_arrivals::{after_decks, random_arrival};
-use crate::store_asks::Held::Part;
-use crate::store_asks::Source::{Loaded, Renewed, Replayed};
-use crate::store_asks::StoreAsk::{Compiled, Decks, DecksRead, Directory, Names, Sizes};
-use crate::store_asks::{Answered, answer, answers_alike, answers_each};
-use crate::store_loads::{ACTIVE_NAMES, DECK_A, DECK_B, TOP};
-use crate::store_parts::FILE;
 use std::alloc::Global;
 use std::test::Fail;
 use upd_desk::Desk;
@@ -78,32 +72,19 @@ fn reads_the_decks_that_random_runs_need(rt: HostRuntime) -> Result<(), Fail> {
     holds(("decks read", read), read > 1_000)
 }
 
-/// Runs of LYON in a mode, and the number of decks that are read for each.
-fn runs_read(
-    session: Session<ListStore>,
-    mode: &str,
-    runs: &[(u64, &str, u64)],
-) -> Result<Session<ListStore>, Fail> {
-    let mut session = session;
+/// Quick runs of LYON on an empty library, and the number of decks that are read for each.
+fn runs_read(alloc: Global, runs: &[(u64, &str, u64)]) -> Result<Session<ListStore>, Fail> {
+    let mut session = Session::new(alloc, ListStore::new(alloc));
     for (number, text, decks) in runs {
-        session = reads(session, &[Ask::Run(lyon(*number, mode, text))], *decks)?;
+        session = reads(session, &[Ask::Run(lyon(*number, "quick", text))], *decks)?;
     }
     Ok(session)
-}
-
-/// The same on an empty library.
-fn first_runs_read(
-    alloc: Global,
-    mode: &str,
-    runs: &[(u64, &str, u64)],
-) -> Result<Session<ListStore>, Fail> {
-    runs_read(Session::new(alloc, ListStore::new(alloc)), mode, runs)
 }
 
 /// Runs of LYON on decks A and B, and the number of decks that are read for each: those of the cards that it names,
 /// both if it yanks, purges or names a yank card, and none if it isn't read.
 const NEEDS: &[(u64, &str, u64)] = &[
-    (1, DECK_A, 0),
+    (1, "*DECK A\nONE\nTWO\nTHREE\n", 0),
     (2, "*DECK B\nBEE\n*IDENT X\n*INSERT A.2\nNEW\n", 1),
     (3, "*IDENT Y\n*DELETE B.2\n", 1),
     (3, "*IDENT Y\n*DELETE B.2\n", 0),
@@ -120,7 +101,7 @@ const NEEDS: &[(u64, &str, u64)] = &[
 
 #[test]
 fn a_quick_run_reads_the_decks_of_its_cards(rt: HostRuntime) -> Result<(), Fail> {
-    first_runs_read(rt.alloc(), "quick", NEEDS)?;
+    runs_read(rt.alloc(), NEEDS)?;
     Ok(())
 }
 
@@ -152,62 +133,5 @@ fn listings_read(session: Session<ListStore>) -> Result<(), Fail> {
 
 #[test]
 fn a_listing_of_a_deck_or_a_card_reads_one_deck(rt: HostRuntime) -> Result<(), Fail> {
-    listings_read(first_runs_read(rt.alloc(), "quick", LISTED_DECKS)?)
-}
-
-/// Deck A has three lines and deck B one. Set X is refused four times, and then inserts a card after the first one of
-/// A. The number of decks that are read for each.
-const RANGES: &[(u64, &str, u64)] = &[
-    (1, DECK_A, 0),
-    (2, DECK_B, 0),
-    (3, "*IDENT X\n*DELETE A.4,A.2\n", 1),
-    (4, "*IDENT X\n*DELETE A.2,B.2\n", 2),
-    (5, "*IDENT X\n*DELETE A.1\n", 1),
-    (6, "*IDENT X\n*BEFORE A.1\n", 1),
-    (7, TOP, 1),
-];
-
-/// A run on one deck of two.
-const LAST: &[(u64, &str, u64)] = &[(8, "*IDENT Y\n*DELETE B.2\n", 1)];
-
-/// What is loaded when decks A and B have serials 1 and 2, and set X has 3: deck B leaves A's five cards to the rest.
-const PARTS: &[Answered] = &[
-    (DecksRead, "6"),
-    (Decks, "[2]"),
-    (Names(Loaded), ACTIVE_NAMES),
-    (Sizes(Part(&[2])), "(1, 5, 5)"),
-    (Compiled, FILE),
-    (DecksRead, "8"),
-];
-
-/// Active cards are replayed and renewed as they are loaded, which reads two decks and one.
-fn loads_alike(alloc: Global, store: &mut ListStore) -> Result<(), Fail> {
-    let loaded = answer(alloc, store, Directory(Loaded))?;
-    answers_alike(
-        alloc,
-        store,
-        &[Directory(Replayed), Directory(Renewed)],
-        &loaded,
-    )?;
-    same("decks read", store.decks_read(), 11)
-}
-
-/// The parts that the store of a desk loads.
-fn loads_from_desk(session: Session<ListStore>) -> Result<Session<ListStore>, Fail> {
-    let Session {
-        desk,
-        reference,
-        alloc,
-    } = session;
-    let mut store = desk.close();
-    answers_each(alloc, &mut store, PARTS)?;
-    loads_alike(alloc, &mut store)?;
-    Ok(Session::over(store, reference))
-}
-
-#[test]
-fn a_run_on_one_deck_of_two_reads_that_one(rt: HostRuntime) -> Result<(), Fail> {
-    let session = loads_from_desk(first_runs_read(rt.alloc(), "full", RANGES)?)?;
-    let session = runs_read(session, "quick", LAST)?;
-    same("decks read", counted(session).1, 12)
+    listings_read(runs_read(rt.alloc(), LISTED_DECKS)?)
 }

@@ -4,10 +4,8 @@ use std::alloc::Global;
 use std::test::Fail;
 use upd_memory::ListStore;
 use upd_row_store::RowStore;
-use upd_sqlite::Rising;
 use upd_store::SqlStore;
 use upd_testkit::session::Session;
-use upd_text::Fault;
 
 /// A store that can be made empty.
 pub trait Fresh: RowStore + Drop {
@@ -23,26 +21,14 @@ impl Fresh for ListStore {
 
 impl Fresh for SqlStore<MemStore> {
     fn fresh(alloc: Global) -> Result<SqlStore<MemStore>, Fail> {
-        taken(SqlStore::init(Connection::open_in_memory(alloc)?))
+        match SqlStore::init(Connection::open_in_memory(alloc)?) {
+            Ok(store) => Ok(store),
+            Err((fault, _)) => Err(fault.into()),
+        }
     }
-}
-
-/// A new library that is adopted from its connection.
-pub fn adopted_anew(alloc: Global) -> Result<SqlStore<MemStore>, Fail> {
-    let made = SqlStore::fresh(alloc)?;
-    taken(SqlStore::adopt(made.into_connection()))
 }
 
 /// A desk over an empty library, beside the reference desk.
 pub fn fresh_session<S: Fresh>(alloc: Global) -> Result<Session<S>, Fail> {
     Ok(Session::new(alloc, S::fresh(alloc)?))
-}
-
-fn taken<S: Rising + Drop>(
-    store: Result<SqlStore<S>, (Fault, Connection<S>)>,
-) -> Result<SqlStore<S>, Fail> {
-    match store {
-        Ok(store) => Ok(store),
-        Err((fault, _)) => Err(fault.into()),
-    }
 }

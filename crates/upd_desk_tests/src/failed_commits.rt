@@ -12,10 +12,9 @@ use upd_desk::{Arrival, Desk, Reply};
 use upd_memory::{ListStore, MirrorStore};
 use upd_records::{LibraryRows, RunRow};
 use upd_row_store::{Meaning, RowStore};
-use upd_testkit::asks::{Ask, Sent, lyon, shown};
-use upd_testkit::check::{holds, same, same_text};
+use upd_testkit::asks::{Sent, lyon, shown};
+use upd_testkit::check::same_text;
 use upd_testkit::replies::{accepted, refused};
-use upd_testkit::session::Session;
 use upd_text::{Fault, FaultKind};
 
 /// Lists of which some commits run out of memory, and then one fails.
@@ -180,77 +179,6 @@ impl RowStore for Failing {
 
 const DECK_A: &str = "*DECK A\nONE\nTWO\nTHREE\n";
 
-/// Runs of which one is lost.
-const RUNS: [&str; 5] = [
-    DECK_A,
-    "*IDENT X\n*DELETE A.2\nNEW\n",
-    "*IDENT Y\n*YANK X\n",
-    "*IDENT Z\n*YANK Y\n",
-    "*IDENT W\n*DELETE Z.1\n",
-];
-
-/// The run whose commit fails is lost: its key isn't known, and it acts when it arrives again.
-fn loses_one<S: RowStore + Drop>(alloc: Global, store: S, passing: usize) -> Result<(), Fail> {
-    let mut session = Session::new(alloc, store);
-    for (commits, text) in RUNS.iter().enumerate() {
-        let sent = lyon((commits as u64).saturating_add(1), "full", text);
-        if commits == passing {
-            session = after_loss(session, sent)?;
-        }
-        session.ask(Ask::Run(sent))?;
-    }
-    Ok(())
-}
-
-/// The desk answers that its store has failed.
-fn has_failed<S: RowStore>(session: &mut Session<S>, ask: Ask<'_>) -> Result<(), Fail> {
-    let answer = session.ask_desk(ask)?;
-    same_text(ask, answer.as_str(), "Store (29) at 0")
-}
-
-/// A run is lost: its key isn't known.
-fn after_loss<S: RowStore + Drop>(
-    mut session: Session<S>,
-    sent: Sent<'_>,
-) -> Result<Session<S>, Fail> {
-    has_failed(&mut session, Ask::Run(sent))?;
-    let Session {
-        desk,
-        reference,
-        alloc,
-    } = session;
-    let mut store = desk.close();
-    is_not_stored(alloc, &mut store, sent)?;
-    Ok(Session::over(store, reference))
-}
-
-/// The run isn't stored, and one commit has failed.
-fn is_not_stored<S: RowStore>(alloc: Global, store: &mut S, sent: Sent<'_>) -> Result<(), Fail> {
-    let is_stored = store.kept_run(alloc, sent.site, sent.number)?.is_some();
-    holds(sent, !is_stored)?;
-    same("the failures", store.failures(), 1)
-}
-
-#[test]
-fn a_failed_commit_stores_no_run(rt: HostRuntime) -> Result<(), Fail> {
-    let alloc = rt.alloc();
-    for passing in 0..RUNS.len() {
-        loses_one(alloc, Failing::new(alloc, passing as u64, 0), passing)?;
-    }
-    Ok(())
-}
-
-/// Before the second commit there are no rows in memory, and after it there are.
-#[test]
-fn a_failed_commit_below_rows_in_memory_is_answered_store(rt: HostRuntime) -> Result<(), Fail> {
-    let alloc = rt.alloc();
-    for passing in 0..RUNS.len() {
-        let store = MirrorStore::new(Failing::new(alloc, passing as u64, 0));
-        loses_one(alloc, store, passing)?;
-    }
-    Ok(())
-}
-
 /// Adds an answer as a line.
 fn add_answer(text: &mut String, answer: Result<Reply, Fault>) -> Result<(), Fail> {
     let answer = shown(*text.allocator(), answer.map(|reply| reply.text))?;
@@ -343,16 +271,6 @@ fn second_is_lost(alloc: Global, replies: &Replies) -> Result<(), Fail> {
     answers_are(alloc, (1, 0), wanted.as_str())
 }
 
-fn none_is_lost(alloc: Global, replies: &Replies) -> Result<(), Fail> {
-    let Replies {
-        made,
-        corrected,
-        ..
-    } = replies;
-    let wanted = format!(in alloc; "{made}\n{corrected}\n{made}\n{corrected}\n")?;
-    answers_are(alloc, (2, 0), wanted.as_str())
-}
-
 /// Two runs run out of memory, and the store fails in the third. The fourth is still looked at.
 fn three_are_lost(alloc: Global, replies: &Replies) -> Result<(), Fail> {
     let unknown = &replies.unknown;
@@ -366,8 +284,7 @@ fn a_lost_run_is_passed_over(rt: HostRuntime) -> Result<(), Fail> {
     let alloc = rt.alloc();
     let replies = wanted_replies(alloc)?;
     first_is_lost(alloc, &replies)?;
-    second_is_lost(alloc, &replies)?;
-    none_is_lost(alloc, &replies)
+    second_is_lost(alloc, &replies)
 }
 
 #[test]

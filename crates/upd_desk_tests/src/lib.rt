@@ -24,10 +24,4 @@ mod steps;
 #[cfg(test)]
 mod store_answers;
 #[cfg(test)]
-mod store_asks;
-#[cfg(test)]
-mod store_loads;
-#[cfg(test)]
-mod store_parts;
-#[cfg(test)]
 mod worked_lists;

@@ -12,7 +12,6 @@ use upd_testkit::asks::{Ask, lyon};
 use upd_testkit::check::{holds, same};
 use upd_testkit::replies::Line;
 use upd_testkit::session::Session;
-use upd_testkit::yank_chains::yanks_in_a_row;
 
 const DECK_A: &str = "*DECK A\nONE\nTWO\nTHREE\n";
 
@@ -28,12 +27,6 @@ const NEW: Line<'static> = ("NEW", "X", 1);
 
 const REPLACED: &[Line<'static>] = &[NEW, TWO, THREE];
 
-const XX: Line<'static> = ("XX", "X", 1);
-
-const YY: Line<'static> = ("YY", "Y", 1);
-
-const END: Line<'static> = ("END", "X", 1);
-
 const BEE: Line<'static> = ("BEE", "B", 2);
 
 /// Deck A is introduced, with three lines.
@@ -41,58 +34,6 @@ const DECK: Step = Accepts(1, "full", DECK_A, &["A"], ALL);
 
 /// Set X replaces its first line.
 const SET: Step = Accepts(2, "full", "*IDENT X\n*DELETE A.2\nNEW\n", &["X"], REPLACED);
-
-const EMPTY_RUN: &[Step] = &[Accepts(1, "quick", "", &[], &[])];
-
-const LATER_INSERTIONS_COME_FIRST: &[Step] = &[
-    DECK,
-    Accepts(
-        2,
-        "full",
-        "*IDENT X\n*INSERT A.2\nXX\n",
-        &["X"],
-        &[ONE, XX, TWO, THREE],
-    ),
-    Accepts(
-        3,
-        "full",
-        "*IDENT Y\n*INSERT A.2\nYY\n",
-        &["Y"],
-        &[ONE, YY, XX, TWO, THREE],
-    ),
-];
-
-const A_CARD_HAS_A_HISTORY: &[Step] = &[
-    DECK,
-    Accepts(2, "full", "*IDENT X\n*DELETE A.2\n", &["X"], &[TWO, THREE]),
-    Accepts(3, "full", "*IDENT Y\n*DELETE A.2\n", &["Y"], &[TWO, THREE]),
-    Accepts(4, "full", "*IDENT Z\n*YANK X\n", &["Z"], &[TWO, THREE]),
-    Says(
-        Ask::Card("A.2"),
-        "CARD A.2\nDECK A\nTEXT ONE\nSTATUS inactive\nENTRY A on\nENTRY X off taken\nENTRY Y off\n",
-    ),
-];
-
-const A_YANK_TAKES_A_SET_BACK: &[Step] = &[
-    DECK,
-    SET,
-    Accepts(3, "full", "*IDENT Z\n*YANK X\n", &["Z"], ALL),
-    Compiles(ALL),
-    Says(
-        Ask::Deck("A"),
-        "DECK A\nA A.1 *DECK A\nA A.2 ONE\nI X.1 NEW\nA A.3 TWO\nA A.4 THREE\n",
-    ),
-];
-
-const YANKS_HOLD_UNTIL_BOTH_ARE_TAKEN_BACK: &[Step] = &[
-    DECK,
-    SET,
-    Accepts(3, "full", "*IDENT V\n*YANK X\n", &["V"], ALL),
-    Accepts(4, "full", "*IDENT W\n*YANK X\n", &["W"], ALL),
-    Accepts(5, "full", "*IDENT U\n*DELETE V.1\n", &["U"], ALL),
-    Accepts(6, "full", "*IDENT T\n*DELETE W.1\n", &["T"], REPLACED),
-    Accepts(7, "full", "*IDENT S\n*RESTORE V.1\n", &["S"], ALL),
-];
 
 const A_YANK_IS_YANKED_AND_CORRECTED: &[Step] = &[
     DECK,
@@ -107,68 +48,6 @@ const A_YANK_IS_YANKED_AND_CORRECTED: &[Step] = &[
     Says(
         Ask::Deck("YANK$$$"),
         "DECK YANK$$$\nA Y.1 *YANK X\nI Z.1 *YANK Y\n",
-    ),
-];
-
-const NO_SET_YANKS_ITSELF: &[Step] = &[
-    DECK,
-    Refuses(2, "full", "*IDENT X\n*YANK X\n", "YankSelf 17 at 2"),
-    Refuses(3, "full", "*IDENT X\n*YANK A.X\n", "YankSelf 17 at 2"),
-    Says(Ask::Idents, "1 A deck held\n"),
-];
-
-const A_PURGED_SET_IS_GONE: &[Step] = &[
-    DECK,
-    SET,
-    Accepts(3, "full", "*IDENT Y\n*YANK X\n", &["Y"], ALL),
-    Accepts(4, "full", "*PURGE X\n", &[], ALL),
-    Says(
-        Ask::Card("A.2"),
-        "CARD A.2\nDECK A\nTEXT ONE\nSTATUS active\nENTRY A on\n",
-    ),
-    Accepts(5, "full", "*IDENT W\n*DELETE Y.1\n", &["W"], ALL),
-    Accepts(6, "full", "*IDENT X\n", &["X"], ALL),
-];
-
-const A_PURGE_TAKES_ALL_THAT_IS_YOUNGER: &[Step] = &[
-    DECK,
-    Accepts(
-        2,
-        "full",
-        "*IDENT X\n*INSERT A.4\nEND\n*DECK B\nBEE\n*IDENT Y\n*YANK A\n",
-        &["X", "B", "Y"],
-        &[END, BEE],
-    ),
-    Accepts(3, "full", "*PURGE X,*\n", &[], ALL),
-    Says(
-        Ask::Idents,
-        "1 A deck held\n2 X set purged\n3 B deck purged\n4 Y set purged\n",
-    ),
-];
-
-const RANGES_ARE_REFUSED: &[Step] = &[
-    DECK,
-    Accepts(2, "full", "*DECK B\nBEE\n", &["B"], &[ONE, TWO, THREE, BEE]),
-    Refuses(
-        3,
-        "full",
-        "*IDENT X\n*DELETE A.4,A.2\n",
-        "RangeOrder 14 at 2",
-    ),
-    Refuses(
-        4,
-        "full",
-        "*IDENT X\n*DELETE A.2,B.2\n",
-        "RangeOrder 14 at 2",
-    ),
-    Refuses(5, "full", "*IDENT X\n*DELETE A.1\n", "DeckCard 15 at 2"),
-    Refuses(6, "full", "*IDENT X\n*BEFORE A.1\n", "DeckCard 15 at 2"),
-    Accepts(
-        7,
-        "full",
-        "*IDENT X\n*INSERT A.1\nXX\n",
-        &["X"],
-        &[XX, ONE, TWO, THREE, BEE],
     ),
 ];
 
@@ -231,42 +110,6 @@ const A_PURGED_COMMON_DECK_IS_MISSED: &[Step] = &[
     Refuses(4, "full", "", "CallUnknown 20 at 0"),
 ];
 
-const A_NAME_COMES_AGAIN: &[Step] = &[
-    DECK,
-    SET,
-    Accepts(3, "full", "*IDENT Y\n*YANK X\n", &["Y"], ALL),
-    Accepts(4, "full", "*PURGE X\n", &[], ALL),
-    Accepts(5, "full", "*IDENT X\n*DELETE A.3\n", &["X"], &[ONE, THREE]),
-    Says(
-        Ask::Idents,
-        "1 A deck held\n2 X set purged\n3 Y set held\n4 X set held\n",
-    ),
-    Says(Ask::Yanks, "live Y.1 *YANK X\n set X purged\n"),
-    Accepts(6, "full", "*IDENT Z\n*YANK X\n", &["Z"], ALL),
-    Says(
-        Ask::Yanks,
-        "live Y.1 *YANK X\n set X purged\nlive Z.1 *YANK X\n set X\n",
-    ),
-];
-
-const A_NAME_COMES_AGAIN_IN_ONE_RUN: &[Step] = &[
-    DECK,
-    Accepts(
-        2,
-        "full",
-        "*IDENT X\n*INSERT A.2\nNEW\n",
-        &["X"],
-        &[ONE, NEW, TWO, THREE],
-    ),
-    Accepts(
-        3,
-        "full",
-        "*PURGE X\n*IDENT X\n*INSERT A.4\nEND\n",
-        &["X"],
-        &[ONE, TWO, THREE, END],
-    ),
-];
-
 const SECOND: Step = Accepts(2, "full", "*IDENT X\n*DELETE A.3\n", &["X"], &[ONE, THREE]);
 
 const A_SETTLED_RUN_NEVER_ACTS_AGAIN: &[Step] = &[
@@ -285,23 +128,12 @@ const A_SETTLED_RUN_NEVER_ACTS_AGAIN: &[Step] = &[
     Compiles(&[ONE, THREE]),
 ];
 
-const LISTS: [&[Step]; 17] = [
-    EMPTY_RUN,
-    LATER_INSERTIONS_COME_FIRST,
-    A_CARD_HAS_A_HISTORY,
-    A_YANK_TAKES_A_SET_BACK,
-    YANKS_HOLD_UNTIL_BOTH_ARE_TAKEN_BACK,
+const LISTS: [&[Step]; 6] = [
     A_YANK_IS_YANKED_AND_CORRECTED,
-    NO_SET_YANKS_ITSELF,
-    A_PURGED_SET_IS_GONE,
-    A_PURGE_TAKES_ALL_THAT_IS_YOUNGER,
-    RANGES_ARE_REFUSED,
     RUNS_ACT_IN_ORDER_OF_FIRST_ARRIVAL,
     REFUSALS_ARE_STORED,
     RUN_NUMBERS_HAVE_ENDS,
     A_PURGED_COMMON_DECK_IS_MISSED,
-    A_NAME_COMES_AGAIN,
-    A_NAME_COMES_AGAIN_IN_ONE_RUN,
     A_SETTLED_RUN_NEVER_ACTS_AGAIN,
 ];
 
@@ -312,6 +144,15 @@ const BEFORE_CHAIN: &[Step] = &[
 ];
 
 const TAKEN_BACK: Step = Accepts(4, "full", "*IDENT W\n*DELETE Y900.1\n", &["W"], ALL);
+
+/// A run of the sets Y1, Y2 and so on: Y1 yanks X, and each other one yanks the one before it.
+fn yanks_in_a_row(alloc: Global, sets: u32) -> Result<String, Fail> {
+    let mut text = String::from_str(alloc, "*IDENT Y1\n*YANK X\n")?;
+    for n in 1..sets {
+        write!(text, "*IDENT Y{}\n*YANK Y{n}\n", n.saturating_add(1))?;
+    }
+    Ok(text)
+}
 
 /// The chain is accepted, with two compile lines.
 fn take_yanks<S: RowStore>(session: &mut Session<S>) -> Result<(), Fail> {

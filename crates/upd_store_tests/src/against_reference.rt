@@ -1,4 +1,5 @@
 //! Random lists over tables of SQLite, beside the reference desk: the answers, and the tables row by row.
+use crate::committing::{adopted, initialized};
 use crate::sqlite_rows::stored_tables;
 use sqlite::{Connection, MemStore};
 use std::alloc::Global;
@@ -11,7 +12,6 @@ use upd_testkit::random_runs::{DECKS, Dice, LISTINGS, random_run};
 use upd_testkit::reference_desk::ReferenceDesk;
 use upd_testkit::reference_rows::reference_tables;
 use upd_testkit::session::Session;
-use upd_text::Fault;
 
 type Store = SqlStore<MemStore>;
 
@@ -26,20 +26,13 @@ trait TableStore: RowStore + Drop {
 
 impl TableStore for SqlStore<MemStore> {
     fn fresh(alloc: Global) -> Result<SqlStore<MemStore>, Fail> {
-        opened(SqlStore::init(Connection::open_in_memory(alloc)?))
+        initialized(Connection::open_in_memory(alloc)?)
     }
 
     fn compared(self, reference: &ReferenceDesk) -> Result<SqlStore<MemStore>, Fail> {
         let mut conn = self.into_connection();
         has_tables(&mut conn, reference)?;
-        opened(SqlStore::adopt(conn))
-    }
-}
-
-fn opened(store: Result<Store, (Fault, Connection<MemStore>)>) -> Result<Store, Fail> {
-    match store {
-        Ok(store) => Ok(store),
-        Err((fault, _)) => Err(fault.into()),
+        adopted(conn)
     }
 }
 

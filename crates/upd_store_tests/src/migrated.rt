@@ -1,4 +1,5 @@
 //! Older files in memory, migrated to the current schema: the same listings, the same repeats, and a desk over them.
+use crate::committing::adopted;
 use crate::older_files::{Older, tables};
 use sqlite::{Connection, MemStore};
 use std::alloc::Global;
@@ -17,13 +18,6 @@ fn older(alloc: Global, file: Older) -> Result<Connection<MemStore>, Fail> {
     let mut conn = Connection::open_in_memory(alloc)?;
     file.make(&mut conn)?;
     Ok(conn)
-}
-
-fn adopted(conn: Connection<MemStore>) -> Result<SqlStore<MemStore>, Fail> {
-    match SqlStore::adopt(conn) {
-        Ok(store) => Ok(store),
-        Err((fault, _)) => Err(fault.into()),
-    }
 }
 
 /// The listings, with that of the card A.3.

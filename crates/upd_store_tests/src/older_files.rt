@@ -1,5 +1,5 @@
 //! Older files, statement by statement, and what their tables hold after a migration.
-use sqlite::types::ValueRef;
+use crate::sqlite_rows::add_values;
 use sqlite::{Alter, Connection, Row};
 use std::alloc::Global;
 use std::test::Fail;
@@ -63,25 +63,26 @@ x'6b6570742036')",
 
 /// The tables of both as text, but for `meta`, `states`, `counts` and `settled`.
 const FIRST_KEPT: &str =
-    "idents|1|A|1|0|1\nidents|2|X|0|0|1\nidents|3|Y|0|0|1\nidents|4|Z|0|0|1\nidents|5|W|0|0|1\n\
-cards|A|1|1|0|*DECK A\ncards|A|2|1|1|ONE\ncards|A|3|1|3|TWO\ncards|A|4|1|4|THREE\ncards|X|1|1|2|NEW\n\
-cards|Y|1|0|0|*YANK X\ncards|Z|1|0|1|*YANK Y\n\
-entries|A|1|0|1|1\nentries|A|2|0|1|1\nentries|A|2|1|2|0\nentries|A|3|0|1|1\nentries|A|4|0|1|1\n\
-entries|X|1|0|2|1\nentries|Y|1|0|3|1\nentries|Z|1|0|4|1\nentries|Z|1|1|5|0\n\
-targets|Y|1|0|0|2|0\ntargets|Z|1|0|0|3|0\n\
-runs|LYON|1|1|*DECK A\nONE\nTWO\nTHREE\n|1|kept 1\nruns|LYON|6|0|*IDENT X\n|0|kept 6\n";
+    "idents|1|'A'|1|0|1\nidents|2|'X'|0|0|1\nidents|3|'Y'|0|0|1\nidents|4|'Z'|0|0|1\nidents|5|'W'|0|0|1\n\
+cards|'A'|1|1|0|'*DECK A'\ncards|'A'|2|1|1|'ONE'\ncards|'A'|3|1|3|'TWO'\ncards|'A'|4|1|4|'THREE'\ncards|'X'|1|1|2|'NEW'\n\
+cards|'Y'|1|0|0|'*YANK X'\ncards|'Z'|1|0|1|'*YANK Y'\n\
+entries|'A'|1|0|1|1\nentries|'A'|2|0|1|1\nentries|'A'|2|1|2|0\nentries|'A'|3|0|1|1\nentries|'A'|4|0|1|1\n\
+entries|'X'|1|0|2|1\nentries|'Y'|1|0|3|1\nentries|'Z'|1|0|4|1\nentries|'Z'|1|1|5|0\n\
+targets|'Y'|1|0|0|2|0\ntargets|'Z'|1|0|0|3|0\n\
+runs|'LYON'|1|1|x'*DECK A\nONE\nTWO\nTHREE\n'|1|x'kept 1'\nruns|'LYON'|6|0|x'*IDENT X\n'|0|x'kept 6'\n";
 
-const SECOND_KEPT: &str = "idents|1|A|1|0|1\nidents|2|X|0|0|0\nidents|3|Y|0|0|1\nidents|4|X|0|0|1\n\
-cards|A|1|1|0|*DECK A\ncards|A|2|1|1|ONE\ncards|A|3|1|2|TWO\ncards|A|4|1|3|THREE\ncards|Y|1|0|0|*YANK X\n\
-entries|A|1|0|1|1\nentries|A|2|0|1|1\nentries|A|3|0|1|1\nentries|A|3|1|4|0\nentries|A|4|0|1|1\nentries|Y|1|0|3|1\n\
-targets|Y|1|0|0|2|0\n\
-runs|LYON|1|1|*DECK A\nONE\nTWO\nTHREE\n|1|kept 1\nruns|LYON|6|0|*IDENT X\n|0|kept 6\n";
+const SECOND_KEPT: &str =
+    "idents|1|'A'|1|0|1\nidents|2|'X'|0|0|0\nidents|3|'Y'|0|0|1\nidents|4|'X'|0|0|1\n\
+cards|'A'|1|1|0|'*DECK A'\ncards|'A'|2|1|1|'ONE'\ncards|'A'|3|1|2|'TWO'\ncards|'A'|4|1|3|'THREE'\ncards|'Y'|1|0|0|'*YANK X'\n\
+entries|'A'|1|0|1|1\nentries|'A'|2|0|1|1\nentries|'A'|3|0|1|1\nentries|'A'|3|1|4|0\nentries|'A'|4|0|1|1\nentries|'Y'|1|0|3|1\n\
+targets|'Y'|1|0|0|2|0\n\
+runs|'LYON'|1|1|x'*DECK A\nONE\nTWO\nTHREE\n'|1|x'kept 1'\nruns|'LYON'|6|0|x'*IDENT X\n'|0|x'kept 6'\n";
 
 const FIRST_STATES: &str =
-    "states|A|1|1\nstates|A|2|1\nstates|A|3|1\nstates|A|4|1\nstates|X|1|0\nstates|Y|1|1\nstates|Z|1|0\n";
+    "states|'A'|1|1\nstates|'A'|2|1\nstates|'A'|3|1\nstates|'A'|4|1\nstates|'X'|1|0\nstates|'Y'|1|1\nstates|'Z'|1|0\n";
 
 const SECOND_STATES: &str =
-    "states|A|1|1\nstates|A|2|1\nstates|A|3|0\nstates|A|4|1\nstates|Y|1|1\n";
+    "states|'A'|1|1\nstates|'A'|2|1\nstates|'A'|3|0\nstates|'A'|4|1\nstates|'Y'|1|1\n";
 
 /// X is yanked by one live card.
 const COUNTS: &str = "counts|0|2|0|1\n";
@@ -118,11 +119,11 @@ impl Older {
         match self {
             Older::First => {
                 Ok(format!(in alloc;
-                    "meta|version|1\n{FIRST_KEPT}no states\nno counts\nno settled\n"
+                    "meta|'version'|1\n{FIRST_KEPT}no states\nno counts\nno settled\n"
                 )?)
             }
             Older::Second => Ok(format!(in alloc;
-                "meta|version|2\n{SECOND_KEPT}{SECOND_STATES}{COUNTS}no settled\n"
+                "meta|'version'|2\n{SECOND_KEPT}{SECOND_STATES}{COUNTS}no settled\n"
             )?),
         }
     }
@@ -131,10 +132,10 @@ impl Older {
     fn after(self, alloc: Global) -> Result<String, Fail> {
         match self {
             Older::First => {
-                Ok(format!(in alloc; "meta|version|3\n{FIRST_KEPT}{FIRST_STATES}{COUNTS}")?)
+                Ok(format!(in alloc; "meta|'version'|3\n{FIRST_KEPT}{FIRST_STATES}{COUNTS}")?)
             }
             Older::Second => {
-                Ok(format!(in alloc; "meta|version|3\n{SECOND_KEPT}{SECOND_STATES}{COUNTS}")?)
+                Ok(format!(in alloc; "meta|'version'|3\n{SECOND_KEPT}{SECOND_STATES}{COUNTS}")?)
             }
         }
     }
@@ -227,24 +228,6 @@ fn add_rows(text: &mut String, table: &str, rows: &[Row]) -> Result<(), Fail> {
         text.push_str(table)?;
         add_values(text, row)?;
         text.push_str("\n")?;
-    }
-    Ok(())
-}
-
-fn add_values(text: &mut String, row: &Row) -> Result<(), Fail> {
-    for at in 0..row.column_count() {
-        add_value(text, row.get_ref(at)?)?;
-    }
-    Ok(())
-}
-
-fn add_value(text: &mut String, value: ValueRef<'_>) -> Result<(), Fail> {
-    match value {
-        ValueRef::Int(number) => write!(text, "|{number}")?,
-        ValueRef::Text(bytes) | ValueRef::Blob(bytes) => {
-            write!(text, "|{}", std::str::from_utf8(bytes)?)?
-        }
-        _ => return Err("a column of another kind".into()),
     }
     Ok(())
 }

@@ -5,16 +5,8 @@ use std::alloc::Global;
 use std::test::Fail;
 use upd_testkit::reference_rows::joined;
 
-const TABLES: &[(&str, &str)] = &[
-    ("meta", "SELECT * FROM meta"),
-    ("idents", "SELECT * FROM idents"),
-    ("cards", "SELECT * FROM cards"),
-    ("entries", "SELECT * FROM entries"),
-    ("targets", "SELECT * FROM targets"),
-    ("states", "SELECT * FROM states"),
-    ("counts", "SELECT * FROM counts"),
-    ("runs", "SELECT * FROM runs"),
-    ("settled", "SELECT * FROM settled"),
+const TABLES: [&str; 9] = [
+    "meta", "idents", "cards", "entries", "targets", "states", "counts", "runs", "settled",
 ];
 
 /// The sorted lines of all tables, one for each row.
@@ -25,9 +17,9 @@ pub fn stored_tables<S: Alter>(alloc: Global, conn: &mut Connection<S>) -> Resul
 }
 
 fn add_tables<S: Alter>(lines: &mut Vec<String>, conn: &mut Connection<S>) -> Result<(), Fail> {
-    for (table, query) in TABLES {
-        let rows = conn.query_all(query, &[])?;
-        add_rows(lines, table, &rows)?;
+    for table in TABLES {
+        let query = format!(in *lines.allocator(); "SELECT * FROM {table}")?;
+        add_rows(lines, table, &conn.query_all(&query, &[])?)?;
     }
     Ok(())
 }
@@ -41,7 +33,8 @@ fn add_rows(lines: &mut Vec<String>, table: &str, rows: &[Row]) -> Result<(), Fa
     Ok(())
 }
 
-fn add_values(line: &mut String, row: &Row) -> Result<(), Fail> {
+/// Adds the values of a row, each after a bar.
+pub fn add_values(line: &mut String, row: &Row) -> Result<(), Fail> {
     for at in 0..row.column_count() {
         add_value(line, row.get_ref(at)?)?;
     }

@@ -1,10 +1,9 @@
 //! Runs over tables of SQLite.
 use crate::committing::{adopted, apply_and_commit, initialized, stored_run};
-use sqlite::types::ValueRef;
-use sqlite::{Connection, MemStore, Row};
+use sqlite::{Connection, MemStore};
 use std::alloc::Global;
 use std::test::Fail;
-use upd_core::{Ident, Kind, Library};
+use upd_core::Library;
 use upd_row_store::RowStore;
 use upd_store::SqlStore;
 use upd_testkit::applying::after;
@@ -89,94 +88,6 @@ fn what_runs_leave_is_stored(rt: HostRuntime) -> Result<(), Fail> {
     stores(alloc, &mut store, 3, REPLACED)?;
     stores(alloc, &mut store, 5, "none")?;
     same("failures", store.failures(), 0)
-}
-
-/// A NOPROP common deck with a deck that calls it; a set; it is purged, comes again, and with it another common deck.
-const NOPROPS: [&str; 3] = [
-    "*COMDECK C,NOPROP\nCEE\n*DECK A\n*CALL C\n",
-    "*IDENT X\n*INSERT C.2\nMORE\n",
-    "*PURGE X\n*IDENT X\n*COMDECK D\n",
-];
-
-/// Their idents: serial, name, kind, whether NOPROP, whether held.
-const NOPROPS_IDENTS: &str = "|1|C|2|1|1\n|2|A|1|0|1\n|3|X|0|0|0\n|4|X|0|0|1\n|5|D|2|0|1\n";
-
-fn add_value(text: &mut String, value: ValueRef<'_>) -> Result<(), Fail> {
-    match value {
-        ValueRef::Int(number) => write!(text, "|{number}")?,
-        ValueRef::Text(bytes) => write!(text, "|{}", std::str::from_utf8(bytes)?)?,
-        _ => return Err("a column of another kind".into()),
-    }
-    Ok(())
-}
-
-fn add_row(text: &mut String, row: &Row) -> Result<(), Fail> {
-    for at in 0..row.column_count() {
-        add_value(text, row.get_ref(at)?)?;
-    }
-    Ok(text.push_str("\n")?)
-}
-
-/// The rows of a library's idents.
-fn ident_rows(alloc: Global, conn: &mut Connection<MemStore>) -> Result<String, Fail> {
-    let mut text = String::new(alloc);
-    let query = "SELECT age, name, kind, noprop, held FROM idents ORDER BY age";
-    for row in &conn.query_all(query, &[])? {
-        add_row(&mut text, row)?;
-    }
-    Ok(text)
-}
-
-fn add_ident(text: &mut String, ident: &Ident) -> Result<(), Fail> {
-    let kind = match ident.kind {
-        Kind::Set => 0,
-        Kind::Deck => 1,
-        Kind::Common => 2,
-    };
-    let (noprop, held) = (u8::from(ident.noprop), u8::from(ident.held));
-    Ok(write!(
-        text,
-        "|{}|{}|{kind}|{noprop}|{held}\n",
-        ident.age, ident.name
-    )?)
-}
-
-/// The idents of a library that is loaded, as rows would have them.
-fn loaded_idents(alloc: Global, store: &mut SqlStore<MemStore>) -> Result<String, Fail> {
-    let mut text = String::new(alloc);
-    for ident in store.load(alloc)?.idents() {
-        add_ident(&mut text, ident)?;
-    }
-    Ok(text)
-}
-
-#[test]
-fn idents_have_their_marks(rt: HostRuntime) -> Result<(), Fail> {
-    let alloc = rt.alloc();
-    let mut store = made_again_of(alloc, &NOPROPS)?;
-    same_text("loaded", &loaded_idents(alloc, &mut store)?, NOPROPS_IDENTS)?;
-    let rows = ident_rows(alloc, &mut store.into_connection())?;
-    same_text("the rows", &rows, NOPROPS_IDENTS)
-}
-
-/// Whether the first line of deck A is listed.
-fn lists_its_line(alloc: Global, library: &Library) -> Result<bool, Fail> {
-    Ok(listings(alloc, library, "A")?.contains("ONE"))
-}
-
-/// A part lists deck B as the whole library does, and nothing of deck A.
-fn lists_only_deck_b(alloc: Global, part: &Library, whole: &Library) -> Result<(), Fail> {
-    lists_the_same(alloc, "B", part, whole)?;
-    let is_listed = [lists_its_line(alloc, part)?, lists_its_line(alloc, whole)?];
-    same("a line of deck A", &is_listed, &[false, true])
-}
-
-#[test]
-fn one_deck_is_loaded(rt: HostRuntime) -> Result<(), Fail> {
-    let alloc = rt.alloc();
-    let part = made_of(alloc, &[DECK_A, DECK_B])?.load_decks(alloc, &[2])?;
-    let whole = after(alloc, &[DECK_A, DECK_B])?;
-    lists_only_deck_b(alloc, &part, &whole)
 }
 
 /// The marks that a site's settlements answer.

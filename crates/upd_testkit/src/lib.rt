@@ -15,6 +15,4 @@ pub mod reference_desk;
 pub mod reference_rows;
 pub mod replies;
 pub mod session;
-pub mod stored_runs;
 pub mod worked_spool;
-pub mod yank_chains;

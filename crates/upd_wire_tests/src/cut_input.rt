@@ -1,115 +1,23 @@
-//! Input that is cut, garbled, or can't be read or answered to its end, and runs whose compile files have no end.
+//! Input that is cut, and input that can't be read or answered to its end.
 use crate::http_desk::{QUICK, QUICK_ANSWER, expect};
 use crate::list_desks::{Lists, empty_desk, has_stored};
 use crate::spool_streams::ANSWER_ENDS;
 use std::alloc::Global;
 use std::io::ErrorKind;
 use std::test::Fail;
-use upd_deck::read_run;
-use upd_testkit::check::{holds, same};
+use upd_testkit::check::same;
 use upd_testkit::fake_streams::{Narrow, Pieces};
-use upd_testkit::worked_spool::{ANSWERS, FIRST, SECOND, SPOOL, THIRD};
+use upd_testkit::worked_spool::{ANSWERS, SPOOL};
 use upd_text::{Fault, FaultKind};
 use upd_wire::{serve_one, spool};
 
-const RUN: &str = "*ID X cleanup\n*D A.2 , A.3 old lines\n*/ note\nNEW\n*FOO\n";
-
-/// The fronts of the run that are refused: the least and the most bytes, and the refusal.
-const REFUSED_FRONTS: &[(usize, usize, &str)] = &[
-    (2, 4, "BadField (7) at 1"),
-    (16, 17, "BadField (7) at 2"),
-    (18, 19, "BadCard (6) at 2"),
-    (22, 23, "BadField (7) at 2"),
-    (24, 25, "BadCard (6) at 2"),
-];
-
-/// How a text is read: the number of its lines, or the refusal.
-fn read(alloc: Global, text: &[u8]) -> Result<String, Fail> {
-    match read_run(alloc, text) {
-        Ok(run) => Ok(format!(in alloc; "{} lines", run.lines().len())?),
-        Err(fault) => Ok(format!(in alloc; "{fault}")?),
-    }
-}
-
-/// The refusal of a front of the run with this length, if it is refused.
-fn refusal_of(length: usize) -> Option<&'static str> {
-    for (least, most, refusal) in REFUSED_FRONTS {
-        if *least <= length && length <= *most {
-            return Some(*refusal);
-        }
-    }
-    None
-}
-
-/// The number of lines of a front of the run. A comment is no line.
-fn lines_of(front: &str) -> usize {
-    let mut lines: usize = 0;
-    for line in front.split('\n') {
-        if !line.is_empty() && !line.starts_with("*/") {
-            lines = lines.saturating_add(1);
-        }
-    }
-    lines
-}
-
-/// How a front of the run is to be read.
-fn wanted_of_front(alloc: Global, front: &str) -> Result<String, Fail> {
-    match refusal_of(front.len()) {
-        Some(refusal) => Ok(String::from_str(alloc, refusal)?),
-        None => Ok(format!(in alloc; "{} lines", lines_of(front))?),
-    }
-}
-
-/// A front of the run is read as it is to be.
-fn front_is_read(alloc: Global, front: &str) -> Result<(), Fail> {
-    let found = read(alloc, front.as_bytes())?;
-    let wanted = wanted_of_front(alloc, front)?;
-    same(front, found.as_str(), wanted.as_str())
-}
-
-#[test]
-fn each_front_of_a_run_is_read_as_a_run(rt: HostRuntime) -> Result<(), Fail> {
-    let alloc = rt.alloc();
-    for length in 0..=RUN.len() {
-        let front = RUN.get(..length).ok_or("no front")?;
-        front_is_read(alloc, front)?;
-    }
-    Ok(())
-}
-
-/// How the run is read with a zero byte.
-fn read_with_zero(alloc: Global, at: usize) -> Result<String, Fail> {
-    let mut text = Vec::from_slice(alloc, RUN.as_bytes())?;
-    if let Some(byte) = text.get_mut(at) {
-        *byte = 0;
-    }
-    read(alloc, &text)
-}
-
-/// A zero byte is refused at this line.
-fn zero_is_refused(alloc: Global, at: usize, line: u32) -> Result<(), Fail> {
-    let found = read_with_zero(alloc, at)?;
-    let wanted = format!(in alloc; "BadByte (3) at {line}")?;
-    same("the fault", (at, found.as_str()), (at, wanted.as_str()))
-}
-
-#[test]
-fn a_zero_byte_is_refused_at_its_line(rt: HostRuntime) -> Result<(), Fail> {
-    let mut line: u32 = 1;
-    for (at, byte) in RUN.bytes().enumerate() {
-        zero_is_refused(rt.alloc(), at, line)?;
-        if byte == b'\n' {
-            line = line.saturating_add(1);
-        }
-    }
-    same("the lines", &line, &6)
-}
+/// Where the frames of the worked spool end.
+const FRAME_ENDS: [usize; 4] = [0, 42, 62, 103];
 
 /// The number of whole frames in the first `bytes` bytes.
 fn whole_frames(bytes: usize) -> u32 {
-    let second = FIRST.len().saturating_add(SECOND.len());
-    let third = second.saturating_add(THIRD.len());
-    u32::from(bytes >= FIRST.len())
+    let [_, first, second, third] = FRAME_ENDS;
+    u32::from(bytes >= first)
         .saturating_add(u32::from(bytes >= second))
         .saturating_add(u32::from(bytes >= third))
 }
@@ -125,9 +33,7 @@ fn answers_of(answers: &[u8], frames: u32) -> Result<&[u8], Fail> {
 /// The end that is expected of the first `bytes` bytes of the spool.
 fn wanted_end(bytes: usize) -> Result<u32, Fault> {
     let whole = whole_frames(bytes);
-    let second = FIRST.len().saturating_add(SECOND.len());
-    let third = second.saturating_add(THIRD.len());
-    if [0, FIRST.len(), second, third].contains(&bytes) {
+    if FRAME_ENDS.contains(&bytes) {
         Ok(whole)
     } else {
         Err(Fault {
@@ -286,79 +192,4 @@ fn a_failed_write_leaves_the_run_stored(rt: HostRuntime) -> Result<(), Fail> {
         is_stored_unanswered(rt.alloc(), &mut empty_desk(rt.alloc()), front)?;
     }
     Ok(())
-}
-
-/// A run is accepted or not, and has this reply.
-fn replies(
-    alloc: Global,
-    desk: &mut Lists,
-    (number, mode, text): (u64, &str, &str),
-    wanted: (bool, &str),
-) -> Result<(), Fail> {
-    let reply = desk.arrive(alloc, "LYON", number, mode, text.as_bytes())?;
-    let found = (reply.accepted, std::str::from_utf8(&reply.text)?);
-    same(mode, found, wanted)
-}
-
-/// A run in full mode is refused with this reply, and nothing of it is in the library.
-fn run_is_refused(alloc: Global, desk: &mut Lists, text: &str, wanted: &str) -> Result<(), Fail> {
-    replies(alloc, desk, (1, "full", text), (false, wanted))?;
-    holds("no ident", desk.ident_list(alloc)?.is_empty())
-}
-
-/// A run in full mode is refused by its compile file, and so is its repeat. In quick mode it is accepted, without a
-/// compile file.
-fn is_refused(
-    alloc: Global,
-    desk: &mut Lists,
-    text: &str,
-    (refusal, reply): (&str, &str),
-) -> Result<(), Fail> {
-    run_is_refused(alloc, desk, text, refusal)?;
-    run_is_refused(alloc, desk, text, refusal)?;
-    has_stored(alloc, desk, 1)?;
-    replies(alloc, desk, (2, "quick", text), (true, reply))
-}
-
-#[test]
-fn a_deck_that_calls_itself_is_refused(rt: HostRuntime) -> Result<(), Fail> {
-    let refusal = "{\"at\":0,\"fault\":21,\"mode\":\"full\",\"name\":\"CallDepth\",\"run\":1,\
-\"site\":\"LYON\",\"state\":\"refused\"}";
-    let reply =
-        "{\"compile\":\"\",\"idents\":[\"C\",\"A\"],\"lines\":0,\"mode\":\"quick\",\"run\":2,\
-\"site\":\"LYON\",\"state\":\"accepted\"}";
-    let text = "*COMDECK C\n*CALL C\n*DECK A\n*CALL C\n";
-    let mut desk = empty_desk(rt.alloc());
-    is_refused(rt.alloc(), &mut desk, text, (refusal, reply))
-}
-
-/// Adds a common deck that calls the next one ten times.
-fn add_calls(text: &mut String, deck: u32) -> Result<(), Fail> {
-    write!(text, "*COMDECK C{deck}\n")?;
-    for _ in 0..10 {
-        write!(text, "*CALL C{}\n", deck.saturating_add(1))?;
-    }
-    Ok(())
-}
-
-/// Seven common decks, each of which calls the next one ten times, and a deck that calls the first.
-fn calls_of_calls(alloc: Global) -> Result<String, Fail> {
-    let mut text = String::new(alloc);
-    for deck in 1..=7_u32 {
-        add_calls(&mut text, deck)?;
-    }
-    text.push_str("*COMDECK C8\n*DECK A\n*CALL C1\n")?;
-    Ok(text)
-}
-
-#[test]
-fn decks_that_call_each_other_ten_times_are_refused(rt: HostRuntime) -> Result<(), Fail> {
-    let refusal = "{\"at\":0,\"fault\":22,\"mode\":\"full\",\"name\":\"CompileLong\",\"run\":1,\
-\"site\":\"LYON\",\"state\":\"refused\"}";
-    let reply =
-        "{\"compile\":\"\",\"idents\":[\"C1\",\"C2\",\"C3\",\"C4\",\"C5\",\"C6\",\"C7\",\"C8\",\"A\"],\
-\"lines\":0,\"mode\":\"quick\",\"run\":2,\"site\":\"LYON\",\"state\":\"accepted\"}";
-    let text = calls_of_calls(rt.alloc())?;
-    let mut desk = empty_desk(rt.alloc());
-    is_refused(rt.alloc(), &mut desk, &text, (refusal, reply))
 }

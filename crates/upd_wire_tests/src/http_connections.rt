@@ -1,5 +1,6 @@
 //! Connections on this machine.
 use crate::http_desk::{QUICK, QUICK_ANSWER};
+use crate::http_frames::RUN_LONG;
 use crate::list_desks::{Lists, empty_desk};
 use std::alloc::Global;
 use std::cell::Cell;
@@ -105,10 +106,6 @@ fn long_request(alloc: Global) -> Result<Vec<u8>, Fail> {
     request.extend_from_slice(&[b'x'; 65_537])?;
     Ok(request)
 }
-
-const RUN_LONG: &str =
-    "HTTP/1.1 413 Payload Too Large\r\nContent-Type: application/json\r\nContent-Length: 35\r\n\
-Connection: close\r\n\r\n{\"at\":0,\"fault\":1,\"name\":\"RunLong\"}";
 
 /// A client that sends more than it may has its answer all the same.
 #[test]

@@ -4,8 +4,8 @@ use std::mem;
 use std::test::Fail;
 use upd_desk::Desk;
 use upd_memory::ListStore;
+use upd_row_store::RowStore;
 use upd_testkit::check::same;
-use upd_testkit::stored_runs::is_stored;
 
 /// A desk over lists.
 pub type Lists = Desk<ListStore>;
@@ -20,10 +20,15 @@ pub fn desk_over(alloc: Global, store: &mut ListStore) -> Lists {
     Desk::open(mem::replace(store, ListStore::new(alloc)))
 }
 
+/// Whether a run of LYON is stored.
+fn is_stored(alloc: Global, store: &mut ListStore, number: u32) -> Result<bool, Fail> {
+    Ok(store.kept_run(alloc, "LYON", u64::from(number))?.is_some())
+}
+
 /// Of the runs 1 to 3 of LYON, a store has those up to `last`.
 pub fn are_stored(alloc: Global, store: &mut ListStore, last: u32) -> Result<(), Fail> {
     for number in 1..=3_u32 {
-        let is_there = is_stored(alloc, store, "LYON", u64::from(number))?;
+        let is_there = is_stored(alloc, store, number)?;
         same("a run", (number, is_there), (number, number <= last))?;
     }
     Ok(())

@@ -7,11 +7,9 @@ use std::test::Fail;
 use upd_memory::ListStore;
 use upd_testkit::check::{holds, same};
 use upd_testkit::fake_streams::Narrow;
+use upd_testkit::worked_spool::SPOOL;
 use upd_text::{Fault, FaultKind};
 use upd_wire::{serve_one, spool};
-
-const FRAMES: &str = "RUN LYON 1 full 22\n*DECK A\nONE\nTWO\nTHREE\n\n\
-RUN LYON 2 quick 0\n\nRUN LYON 3 full 21\n*IDENT X\n*DELETE A.3\n\n";
 
 /// A writer that needs no more memory.
 fn roomy(alloc: Global) -> Result<Narrow, Fail> {
@@ -24,7 +22,7 @@ fn roomy(alloc: Global) -> Result<Narrow, Fail> {
 fn spooled(alloc: Global, store: &mut ListStore) -> Result<(Result<u32, Fault>, Vec<u8>), Fail> {
     let mut output = roomy(alloc)?;
     let mut desk = desk_over(alloc, store);
-    let ended = spool(alloc, &mut FRAMES.as_bytes(), &mut output, &mut desk);
+    let ended = spool(alloc, &mut SPOOL.as_bytes(), &mut output, &mut desk);
     *store = desk.close();
     Ok((ended, output.taken))
 }

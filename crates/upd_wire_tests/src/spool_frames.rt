@@ -1,11 +1,10 @@
-//! Frames that are not valid, and answers that are not replies.
+//! Frames that are not valid, answers that are not replies, and the greatest number of frames.
 use crate::list_desks::{Lists, empty_desk};
 use crate::spool_streams::{comes_out, ends};
 use std::alloc::Global;
 use std::test::Fail;
-use upd_testkit::check::{holds, same};
+use upd_testkit::check::same;
 use upd_testkit::fake_streams::{Cycle, Tally};
-use upd_testkit::worked_spool::{FIRST, FIRST_ANSWER, SECOND, SECOND_ANSWER};
 
 const BAD_SITE: &str = "{\"at\":0,\"fault\":23,\"name\":\"BadSite\"}\n";
 
@@ -13,15 +12,8 @@ const BAD_NUMBER: &str = "{\"at\":0,\"fault\":24,\"name\":\"BadNumber\"}\n";
 
 const BAD_MODE: &str = "{\"at\":0,\"fault\":25,\"name\":\"BadMode\"}\n";
 
-const RUN_CHANGED: &str = "{\"at\":0,\"fault\":26,\"name\":\"RunChanged\"}\n";
-
-const SETTLED: &str = "{\"at\":0,\"fault\":27,\"name\":\"Settled\"}\n";
-
 const NOWHERE: &str = "{\"at\":1,\"fault\":9,\"mode\":\"full\",\"name\":\"TextNowhere\",\"run\":1,\
 \"site\":\"LYON\",\"state\":\"refused\"}\n";
-
-const FULL_EMPTY: &str = "{\"compile\":\"\",\"idents\":[],\"lines\":0,\"mode\":\"full\",\"run\":2,\
-\"site\":\"LYON\",\"state\":\"accepted\"}\n";
 
 /// Spools on a desk, one after the other: what comes out, and how each ends.
 fn all_come_out(
@@ -100,45 +92,6 @@ const REFUSED: &[(&str, &str, &str)] = &[
 #[test]
 fn refusals_are_answers(rt: HostRuntime) -> Result<(), Fail> {
     all_come_out(rt.alloc(), &mut empty_desk(rt.alloc()), REFUSED)
-}
-
-/// Runs without the LF at their end and runs of the same number, with their answers and ends.
-const WITHOUT_LF: &[(&str, &str, &str)] = &[
-    ("RUN LYON 1 full 65536\n", "", "CutFrame (31) at 1"),
-    ("RUN LYON 2 quick 0\n", "", "CutFrame (31) at 1"),
-    ("RUN LYON 2 quick 0\nX", "", "BadFrame (30) at 1"),
-    ("RUN LYON 2 full 0\n\n", FULL_EMPTY, "1"),
-    (SECOND, RUN_CHANGED, "1"),
-    ("RUN LYON 2 full 1\n\n\n", RUN_CHANGED, "1"),
-];
-
-/// These spools come out. Then run 2 is settled, and its repeat is refused.
-fn is_settled_last(alloc: Global, desk: &mut Lists) -> Result<(), Fail> {
-    all_come_out(alloc, desk, WITHOUT_LF)?;
-    same("the mark", desk.settle_site(alloc, "LYON", 2)?, 2)?;
-    comes_out(alloc, desk, SECOND, (SETTLED, "1"))
-}
-
-#[test]
-fn a_run_without_its_lf_is_as_good_as_not_sent(rt: HostRuntime) -> Result<(), Fail> {
-    is_settled_last(rt.alloc(), &mut empty_desk(rt.alloc()))
-}
-
-/// A frame, a line that is not one, and a frame that introduces deck A.
-const JUNK_BETWEEN: &str =
-    "RUN LYON 2 quick 0\n\njunk\nRUN LYON 1 full 22\n*DECK A\nONE\nTWO\nTHREE\n\n";
-
-/// The frame after the line is not read. It has its answer when it is sent again.
-fn last_is_not_read(alloc: Global, desk: &mut Lists) -> Result<(), Fail> {
-    let end = "BadFrame (30) at 2";
-    comes_out(alloc, desk, JUNK_BETWEEN, (SECOND_ANSWER, end))?;
-    holds("no ident", desk.ident_list(alloc)?.is_empty())?;
-    comes_out(alloc, desk, FIRST, (FIRST_ANSWER, "1"))
-}
-
-#[test]
-fn nothing_is_read_after_a_bad_frame(rt: HostRuntime) -> Result<(), Fail> {
-    last_is_not_read(rt.alloc(), &mut empty_desk(rt.alloc()))
 }
 
 /// The shortest frame.
