@@ -1,8 +1,6 @@
 -- What is known of a step that may be refused, and what holds after it.
-use Rattle.std.proofs.Common.{◌≡◌, ℕ, refl, subst}
-use Rattle.std.specs.Prelude.{Result, Ok, Err, IfOk}
-use Rattle.upd_text.specs.declared.fault.FaultKind.{FaultKind}
-use Rattle.upd_text.specs.Outcome.{◌>>=◌, at_line}
+use Rattle.upd_apply.proofs.Common.{◌≡◌, ℕ, refl, subst, Result, IfOk, FaultKind, ◌>>=◌, at_line}
+use Rattle.std.specs.Prelude.{Ok, Err}
 
 -- what is Ok comes of a first step that is Ok
 pub bind_ok : {A B E : Type 0} (r : Result A E) (f : A → Result B E) (y : B) (P : Type 0) → r >>= f ≡ Ok y → ((x : A) → r ≡ Ok x → f x ≡ Ok y → P) → P

@@ -1,17 +1,13 @@
 -- Each line extends the directory.
-use Rattle.std.proofs.Common.{◌≡◌, ℕ, ◌-◌, Bool, true, false, not, List, [], ◌∷◌, ◌++◌, map, length, inl, inr, refl, sym, subst, ◌∙◌}
-use Rattle.std.specs.Prelude.{◌==◌, ◌&&◌, ◌⊎◌, insert, cond, Ok}
+use Rattle.upd_apply.proofs.Common.{◌≡◌, ℕ, Bool, true, false, not, List, [], ◌∷◌, ◌++◌, map, length, refl, sym, subst, ◌∙◌, ◌==◌, LibraryView, LineView}
+use Rattle.upd_apply.proofs.Common.{State, stepped, Edit, NewSet, NewDeck, AddsAtEnd, AddsInside, Switches, Purges, PurgesIn, carried, step}
+use Rattle.std.proofs.Common.{◌-◌, inl, inr}
+use Rattle.std.specs.Prelude.{◌&&◌, ◌⊎◌, insert, cond, Ok}
 use Rattle.upd_core.specs.declared.ident.Ident.{Ident as Listed}
-use Rattle.upd_core.specs.Edits.{new_card, unheld, without_idents}
+use Rattle.upd_core.specs.Edits.{new_card, unheld, without_idents, entered_range}
 use Rattle.upd_core.specs.First.{at_first}
-use Rattle.upd_core.specs.Library.{CardView, LibraryView, is_deck, with_cards}
+use Rattle.upd_core.specs.Library.{CardView, is_deck, with_cards}
 use Rattle.upd_core.specs.Sound.{Continues}
-use Rattle.upd_deck.specs.Items.{LineView}
-use Rattle.upd_apply.specs.declared.state.State.{State}
-use Rattle.upd_apply.specs.Applying.{stepped}
-use Rattle.upd_core.specs.Edits.{entered_range}
-use Rattle.upd_apply.specs.LineEdits.{Edit, NewSet, NewDeck, AddsAtEnd, AddsInside, Switches, Purges, PurgesIn, carried}
-use Rattle.upd_apply.specs.Step.{step}
 use Rattle.upd_apply.proofs.EditLemmas.{of_step, purges_keep, steps_keep}
 
 -- ---- directories

@@ -1,34 +1,30 @@
 -- What is known of an edit that a line was judged to be; a law of each such edit is one of each line.
-use Rattle.std.proofs.Common.{◌≡◌, ℕ, Bool, true, false, not, ◌&&◌, List, [], ◌∷◌, refl, subst}
-use Rattle.std.specs.Prelude.{◌==◌, ◌||◌, nat_lt, Some, Result, Ok, Err, IfOk}
+use Rattle.upd_apply.proofs.Common.{◌≡◌, ℕ, Bool, true, false, not, ◌&&◌, List, [], ◌∷◌, refl, subst, ◌==◌, Result, IfOk, FaultKind, at_line, Target}
+use Rattle.upd_apply.proofs.Common.{LibraryView, is_deck_kind, ItemView, LineView, State, stepped, Edit, NewSet, NewDeck, AddsAtEnd, AddsInside, Switches}
+use Rattle.upd_apply.proofs.Common.{AddsYank, Purges, PurgesIn, carried, purged_in_all, decks_purged, idents_purged, pairs_purged, step, sets_yanked}
+use Rattle.upd_apply.proofs.Common.{pairs_yanked, decks_yanked}
+use Rattle.std.specs.Prelude.{◌||◌, nat_lt, Some, Ok, Err}
 use Rattle.upd_text.specs.declared.card_ref.CardRef.{CardRef}
-use Rattle.upd_text.specs.declared.fault.FaultKind.{FaultKind}
 use Rattle.upd_text.specs.declared.fault.FaultKind.TheVariants as fault
-use Rattle.upd_text.specs.Outcome.{at_line}
 use Rattle.upd_text.proofs.OutcomeLemmas.{after_need, after_refusal}
 use Rattle.upd_core.specs.declared.ident.Kind.{Kind}
 use Rattle.upd_core.specs.declared.ident.Kind.TheVariants as kind
 use Rattle.upd_core.specs.declared.library.Place.{Place}
-use Rattle.upd_core.specs.declared.target.Target.{Target}
 use Rattle.upd_core.specs.Edits.{purged_in}
-use Rattle.upd_core.specs.Library.{LibraryView, is_deck_kind, place_of}
+use Rattle.upd_core.specs.Library.{place_of}
 use Rattle.upd_core.specs.Limits.{is_within_limits}
 use Rattle.upd_deck.specs.declared.item.IdentIn.{IdentIn}
 use Rattle.upd_deck.specs.declared.item.NameRange.{NameRange}
-use Rattle.upd_deck.specs.Items.{ItemView, LineView, Text, Call, Ident, Deck, CommonDeck, Insert, Before, Delete, Restore, Yank, SelYank, YankDeck}
+use Rattle.upd_deck.specs.Items.{Text, Call, Ident, Deck, CommonDeck, Insert, Before, Delete, Restore, Yank, SelYank, YankDeck}
 use Rattle.upd_deck.specs.Items.{Purge, PurgeFrom, SelPurge, PurDeck, Compile}
 use Rattle.upd_apply.specs.declared.state.CurrentSet.{CurrentSet}
 use Rattle.upd_apply.specs.declared.state.InsertPoint.{InsertPoint}
 use Rattle.upd_apply.specs.declared.state.InsertPoint.TheVariants.{Nowhere, End, Inside}
-use Rattle.upd_apply.specs.declared.state.State.{State}
-use Rattle.upd_apply.specs.Applying.{stepped}
 use Rattle.upd_apply.specs.Directives.{cards_of_item, is_purge, is_yank, new_name_of}
-use Rattle.upd_apply.specs.LineEdits.{Edit, Stays, MovesAfter, MovesBefore, NewSet, NewDeck, AddsAtEnd, AddsInside, Switches, AddsYank, Purges, PurgesIn}
-use Rattle.upd_apply.specs.LineEdits.{adds, carried, purged_in_all}
+use Rattle.upd_apply.specs.LineEdits.{Stays, MovesAfter, MovesBefore, adds}
 use Rattle.upd_apply.specs.Names.{known_ident}
-use Rattle.upd_apply.specs.Purges.{AgesIn, decks_purged, idents_purged, pairs_purged}
-use Rattle.upd_apply.specs.Step.{carried_out, is_deck_card, judged, new_name, step, switch_judged, text_judged, yank_judged, deck_judged}
-use Rattle.upd_apply.specs.Yanks.{sets_yanked, pairs_yanked, decks_yanked}
+use Rattle.upd_apply.specs.Purges.{AgesIn}
+use Rattle.upd_apply.specs.Step.{carried_out, is_deck_card, judged, new_name, switch_judged, text_judged, yank_judged, deck_judged}
 use Rattle.upd_apply.proofs.BindLemmas.{bind_all, bind_ok, holds_of, line_is}
 
 -- ---- what is known of an edit

@@ -1,7 +1,6 @@
 -- A filter in a loop: what is found so far, and what remains.
-use Rattle.std.proofs.Common.{◌≡◌, ℕ, ◌+◌, ◌<◌, Bool, true, false, if◌then◌else◌, List, [], ◌∷◌, ◌++◌, map, length, drop, get_or, ap, sym, ◌∙◌, append_assoc}
-use Rattle.std.specs.List.{filter}
-use Rattle.std.proofs.lemmas.List.{drop_more}
+use Rattle.upd_apply.proofs.Common.{◌≡◌, ℕ, ◌+◌, ◌<◌, Bool, true, false, if◌then◌else◌, List, [], ◌∷◌, ◌++◌, map, length, drop, get_or, ap, sym, ◌∙◌}
+use Rattle.upd_apply.proofs.Common.{append_assoc, filter, drop_more}
 
 one_more : {X Y : Type 0} (f : X → Y) (test : X → Bool) (x : X) (xs : List X) (found now : List Y) (b : Bool)
     → b ≡ test x → now ≡ (if b then found ++ f x ∷ [] else found)

@@ -1,4 +1,5 @@
 pub mod BindLemmas
+pub mod Common
 pub mod EditLemmas
 pub mod DirectoryLemmas
 pub mod Filtered

@@ -1,11 +1,8 @@
 -- A list without repetitions, as a loop finds it: an element is appended unless it is there.
-use Rattle.std.proofs.Common.{◌≡◌, ℕ, ◌+◌, ◌<◌, map, length, drop, get_or, Bool, true, false, not, ◌&&◌, ◌||◌, if◌then◌else◌, List, [], ◌∷◌, ◌++◌}
-use Rattle.std.proofs.Common.{Result, Ok, Err, refl, ap, sym, ◌∙◌, subst, append_assoc, append-nil}
-use Rattle.std.specs.List.{filter, list_any}
-use Rattle.std.proofs.lemmas.List.{drop_more}
+use Rattle.upd_apply.proofs.Common.{◌≡◌, ℕ, ◌+◌, ◌<◌, map, length, drop, get_or, Bool, true, false, not, ◌&&◌, if◌then◌else◌, List, [], ◌∷◌, ◌++◌, Ok, Err}
+use Rattle.upd_apply.proofs.Common.{refl, ap, sym, ◌∙◌, subst, append_assoc, filter, list_any, drop_more, ◌>>=◌, each, once}
+use Rattle.std.proofs.Common.{◌||◌, Result, append-nil}
 use Rattle.std.proofs.lemmas.List.Folds.{list_any-append}
-use Rattle.upd_text.specs.Outcome.{◌>>=◌, each}
-use Rattle.upd_apply.specs.Yanks.{once}
 
 -- elements that are the same by the test are equal
 abbrev pub AreEqual : {A : Type 0} → (A → A → Bool) → Type 0

@@ -1,12 +1,7 @@
 -- A step raises the next number by at most 1.
-use Rattle.std.proofs.Common.{◌≡◌, ℕ, ◌+◌, ◌≤◌, List, arith}
+use Rattle.upd_apply.proofs.Common.{◌≡◌, ℕ, ◌+◌, ◌≤◌, List, arith, at_line, ItemView, LineView, State, Edit, AddsAtEnd, AddsInside, AddsYank, carried}
+use Rattle.upd_apply.proofs.Common.{next_most, step}
 use Rattle.std.specs.Prelude.{Ok}
-use Rattle.upd_text.specs.Outcome.{at_line}
-use Rattle.upd_deck.specs.Items.{ItemView, LineView}
-use Rattle.upd_apply.specs.declared.state.State.{State}
-use Rattle.upd_apply.specs.LineEdits.{Edit, AddsAtEnd, AddsInside, AddsYank, carried}
-use Rattle.upd_apply.specs.Numbers.{next_most}
-use Rattle.upd_apply.specs.Step.{step}
 use Rattle.upd_apply.proofs.BindLemmas.{line_is}
 use Rattle.upd_apply.proofs.EditLemmas.{Fits, of_step}
 

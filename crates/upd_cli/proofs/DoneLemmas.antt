@@ -23,6 +23,7 @@ module _ {S D : Type 0} {g : DiskGhosts D} {meaning : Ghosts S} {conn_of : S →
     {R W E : Type 0} {input : Stream R} {output : Stream W} {faults : Stream E} where
   -- what was asked is this request
   pub done_as : (request meant : Request) (status : ℕ) → request ≡ meant
-      → IsDone meaning conn_of held below store_of first input output faults meant status → Carries meaning conn_of held below store_of first input output faults request status
+      → IsDone meaning conn_of held below store_of first input output faults meant status
+      → Carries meaning conn_of held below store_of first input output faults request status
   done_as request meant status is done =
       subst (λ r. Carries meaning conn_of held below store_of first input output faults r status) (sym is) (record { done = done })

@@ -1,16 +1,11 @@
 -- Chains of calls: of at most as many calls as there are decks, or as paths.
-use Rattle.std.proofs.Common.{◌≡◌, ℕ, zero, suc, ◌≤◌, ◌⊎◌, ◌↔◌, inl, inr, ⊎_elim, Bool, true, false, ◌&&◌, ◌||◌, if◌then◌else◌, List, [], ◌∷◌, length, IsTrue}
-use Rattle.std.proofs.Common.{Option, Some, None, refl, sym, ap, ◌∙◌, arith}
-use Rattle.std.specs.List.{list_any, AllByRecursion}
-use Rattle.std.specs.Option.{option_and_then}
-use Rattle.std.proofs.lemmas.Bool.{false≢true, and_parts, and_from, or_cases, or_left, or_right}
-use Rattle.std.proofs.lemmas.List.Folds.{Any-from_list_any, list_any-from_Any}
-use Rattle.upd_core.specs.declared.ident.Ident.{Ident}
-use Rattle.upd_core.specs.Actives.{ActiveCardView, ActiveDeckView, ActivesView}
-use Rattle.upd_core.specs.Library.{held_named, is_common}
-use Rattle.upd_text.specs.Lines.{is_call, called}
-use Rattle.upd_compile.specs.Chosen.{Calls, Chain, Call, Through, called_decks, has_chain, has_chain_within, is_changed, is_passed_on}
-use Rattle.upd_compile.specs.Walk.{common_named, deck_aged, text_cards}
+use Rattle.upd_compile.proofs.Common.{◌≡◌, ℕ, zero, suc, ◌≤◌, ◌⊎◌, ◌↔◌, inl, inr, ⊎_elim, Bool, true, false, ◌&&◌, ◌||◌, if◌then◌else◌, List, [], ◌∷◌, length}
+use Rattle.upd_compile.proofs.Common.{Option, Some, None, refl, sym, ap, ◌∙◌, arith, list_any, AllByRecursion, option_and_then, false≢true, and_parts}
+use Rattle.upd_compile.proofs.Common.{and_from, or_cases, or_left, or_right, Any-from_list_any, list_any-from_Any, Ident, ActiveCardView, ActiveDeckView}
+use Rattle.upd_compile.proofs.Common.{ActivesView, held_named, is_common, is_call, called, called_decks, has_chain, is_changed, is_passed_on, common_named}
+use Rattle.upd_compile.proofs.Common.{deck_aged, text_cards}
+use Rattle.std.proofs.Common.{IsTrue}
+use Rattle.upd_compile.specs.Chosen.{Calls, Chain, Call, Through, has_chain_within}
 use Rattle.upd_compile.proofs.ListLemmas.{list_any-weaker, list_any-same, list_any-taken, find-holds, number, number-grows, number-all}
 
 -- whether a change reaches the callers of a deck: it passes changes on, and it changed, or this holds of a deck that it calls

@@ -1,6 +1,5 @@
 -- Decks chosen by flags.
-use Rattle.std.proofs.Common.{◌≡◌, Bool, ◌||◌, List, [], ◌∷◌, map, refl, ap}
-use Rattle.std.specs.List.{zip}
+use Rattle.upd_compile.proofs.Common.{◌≡◌, Bool, ◌||◌, List, [], ◌∷◌, map, refl, ap, zip}
 
 -- the disjunction of three tests
 pub any-map : {A : Type 0} (f g h : A → Bool) (xs : List A)

@@ -1,11 +1,9 @@
 -- Walks by the depth of their calls are walks by the levels left.
-use Rattle.std.proofs.Common.{◌≡◌, ℕ, zero, suc, ◌+◌, ◌↔◌, Bool, true, false, if◌then◌else◌, List, [], ◌∷◌, Option, Some, None, refl, sym, ap, subst, arith}
-use Rattle.std.specs.List.{flat_map}
-use Rattle.upd_core.specs.Actives.{ActiveCardView, ActiveDeckView, ActivesView}
-use Rattle.upd_text.specs.Lines.{is_call, called}
-use Rattle.upd_text.specs.declared.limits.TheConstants.{MAX_DEPTH}
+use Rattle.upd_compile.proofs.Common.{◌≡◌, ℕ, zero, suc, ◌+◌, ◌↔◌, Bool, true, false, if◌then◌else◌, List, [], ◌∷◌, Option, Some, None, refl, sym, ap, subst}
+use Rattle.upd_compile.proofs.Common.{arith, flat_map, ActiveCardView, ActiveDeckView, ActivesView, is_call, called, MAX_DEPTH, WalkEvent, Line, Follow}
+use Rattle.upd_compile.proofs.Common.{Depth, card_events, common_named, text_cards, walk}
 use Rattle.upd_compile.specs.Depths.{Gives, Meets, Walks, Text, Followed, OfNone, TooDeep, NoMore, Next}
-use Rattle.upd_compile.specs.Walk.{WalkEvent, Line, Follow, Depth, call_events, card_events, common_named, text_cards, walk}
+use Rattle.upd_compile.specs.Walk.{call_events}
 use Rattle.upd_compile.proofs.WalkLemmas.{events-text, events-unknown}
 
 -- the number of levels left at a depth

@@ -1,10 +1,9 @@
 -- Lists of followers that grow.
-use Rattle.std.proofs.Common.{◌≡◌, ℕ, zero, suc, add-one, ◌+◌, ◌<◌, ◌≤◌, ◌==◌, nat_lt, Bool, true, false, ◌&&◌, ◌||◌, List, [], ◌∷◌, ◌++◌, length, take, get_or}
-use Rattle.std.proofs.Common.{replicate, Some, slice_get, refl, sym, ap, ◌∙◌, arith}
-use Rattle.std.proofs.lemmas.Bool.{and_left, and_right, and_parts, eqb-true, lt-ltb, ne_eqb}
+use Rattle.upd_compile.proofs.Common.{◌≡◌, ℕ, zero, suc, add-one, ◌+◌, ◌<◌, ◌≤◌, ◌==◌, nat_lt, Bool, true, false, ◌&&◌, ◌||◌, List, [], ◌∷◌, ◌++◌, length}
+use Rattle.upd_compile.proofs.Common.{take, get_or, replicate, Some, slice_get, refl, sym, ap, ◌∙◌, arith, and_right, and_parts, eqb-true, lt-ltb, ne_eqb}
+use Rattle.upd_compile.proofs.Common.{set, length-set, AreCallers, FollowsMore, follows, is_in, is_flagged}
+use Rattle.std.proofs.lemmas.Bool.{and_left}
 use Rattle.std.proofs.lemmas.List.{length-replicate, take_all}
-use Rattle.std.proofs.Math.ListN.{set, length-set}
-use Rattle.upd_compile.specs.Reach.{AreCallers, FollowsMore, follows, is_in, is_flagged}
 use Rattle.upd_compile.proofs.ReachLemmas.{and-true, or-false, is_in-push, is_flagged-more, flags-then, same-where, same_suc}
 
 -- one follower more
@@ -69,7 +68,8 @@ callers-more calls flags i list x y z within found visited first then =
 
 -- a position more that isn't flagged
 pub callers-same : (calls : List (List ℕ)) (flags : List Bool) (i : ℕ) (x y : List (List ℕ)) → i < length flags → false ≡ get_or flags i false
-    → FollowsMore (λ c d. is_flagged (take i flags) d && follows calls d c) x y → FollowsMore (λ c d. is_flagged (take (i + 1) flags) d && follows calls d c) x y
+    → FollowsMore (λ c d. is_flagged (take i flags) d && follows calls d c) x y
+    → FollowsMore (λ c d. is_flagged (take (i + 1) flags) d && follows calls d c) x y
 callers-same calls flags i x y within unvisited first = record {
   follows_more = λ c d. rw (add-one, is_flagged-more flags i d false within unvisited, or-false (is_flagged (take i flags) d)) (first.follows_more c d);
   same_length = first.same_length;

@@ -4,6 +4,7 @@ pub mod FollowLemmas
 pub mod ReachingLemmas
 pub mod ChainLemmas
 pub mod ChosenLemmas
+pub mod Common
 pub mod SpreadLemmas
 pub mod PositionLemmas
 pub mod ListingLemmas

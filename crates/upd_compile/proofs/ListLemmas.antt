@@ -1,8 +1,7 @@
 -- Tests on lists: some element passes, how many pass, what is found.
-use Rattle.std.proofs.Common.{◌≡◌, ℕ, suc, ◌+◌, ◌<◌, ◌≤◌, ◌⊎◌, inl, inr, ⊎_elim, Bool, true, false, if◌then◌else◌, List, [], ◌∷◌, length, Option, Some, None}
-use Rattle.std.proofs.Common.{refl, subst, arith}
-use Rattle.std.specs.List.{list_any, find, filter_map, cons_option, AllByRecursion}
-use Rattle.std.proofs.lemmas.Bool.{false≢true, or_cases, or_left, or_right, cases_Bool}
+use Rattle.upd_compile.proofs.Common.{◌≡◌, ℕ, suc, ◌+◌, ◌<◌, ◌≤◌, ◌⊎◌, inl, inr, ⊎_elim, Bool, true, false, if◌then◌else◌, List, [], ◌∷◌, length, Option}
+use Rattle.upd_compile.proofs.Common.{Some, None, refl, subst, arith, list_any, find, filter_map, cons_option, AllByRecursion, false≢true, or_cases, or_left}
+use Rattle.upd_compile.proofs.Common.{or_right, cases_Bool}
 
 -- where a test passes, a weaker one does
 pub list_any-weaker : {A : Type 0} (p q : A → Bool) → ((x : A) → p x ≡ true → q x ≡ true) → (xs : List A) → list_any p xs ≡ true → list_any q xs ≡ true

@@ -1,14 +1,7 @@
 -- Decks found by their positions.
-use Rattle.std.proofs.Common.{◌≡◌, ℕ, zero, suc, add-one, ◌+◌, ◌==◌, Bool, true, false, if◌then◌else◌, cond, List, [], ◌∷◌, drop, Option, Some, None, refl, sym}
-use Rattle.std.proofs.Common.{slice_get}
-use Rattle.std.specs.Option.{option_and_then, option_map}
-use Rattle.std.specs.List.{find}
-use Rattle.upd_core.specs.declared.ident.Ident.{Ident}
-use Rattle.upd_core.specs.Actives.{ActivesView}
-use Rattle.upd_core.specs.First.{index_from}
-use Rattle.upd_core.specs.Library.{is_common, held_named}
-use Rattle.upd_compile.specs.Positions.{kind_and_age, position_aged, position_named}
-use Rattle.upd_compile.specs.Walk.{common_named, deck_aged}
+use Rattle.upd_compile.proofs.Common.{◌≡◌, ℕ, zero, suc, add-one, ◌+◌, ◌==◌, Bool, true, false, if◌then◌else◌, cond, List, [], ◌∷◌, drop, Option, Some, None}
+use Rattle.upd_compile.proofs.Common.{refl, sym, slice_get, option_and_then, option_map, find, Ident, ActivesView, index_from, is_common, held_named}
+use Rattle.upd_compile.proofs.Common.{kind_and_age, position_aged, position_named, common_named, deck_aged}
 
 -- the element after n others, and those after it
 at_front : {A : Type 0} (all xs : List A) (x : A) (n : ℕ) → drop n all ≡ x ∷ xs → slice_get all n ≡ Some x

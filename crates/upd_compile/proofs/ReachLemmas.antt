@@ -1,13 +1,13 @@
 -- Flags and positions.
-use Rattle.std.proofs.Common.{◌≡◌, ℕ, zero, suc, ◌<◌, ◌≤◌, ◌==◌, ◌⊎◌, ⊎_elim, nat_lt, Bool, true, false, ◌&&◌, ◌||◌, not, cond, List, [], ◌∷◌, ◌++◌, length}
-use Rattle.std.proofs.Common.{take, get_or, refl, sym, ap, ◌∙◌, length-append, arith}
+use Rattle.upd_compile.proofs.Common.{◌≡◌, ℕ, zero, suc, ◌<◌, ◌≤◌, ◌==◌, ◌⊎◌, ⊎_elim, nat_lt, Bool, true, false, ◌&&◌, ◌||◌, not, cond, List, [], ◌∷◌, ◌++◌}
+use Rattle.upd_compile.proofs.Common.{length, take, get_or, refl, sym, ap, ◌∙◌, arith, false≢true, and_parts, and_right, or_right, eqb-true, lt-ltb, ne_eqb}
+use Rattle.upd_compile.proofs.Common.{set, length-set, VisitsMore, is_in, is_flagged}
+use Rattle.std.proofs.Common.{length-append}
 use Rattle.std.proofs.lemmas.Bool.Decides.{nat_tests}
-use Rattle.std.proofs.lemmas.Bool.{false≢true, and_parts, and_right, or_right, eqb-true, ltb-true, lt-ltb, ne_eqb}
+use Rattle.std.proofs.lemmas.Bool.{ltb-true}
 use Rattle.std.proofs.lemmas.List.Folds.{list_any-append}
 use Rattle.std.proofs.lemmas.List.Sums.{sum_by-set}
 use Rattle.std.proofs.lemmas.Option.{slice_get-get_or}
-use Rattle.std.proofs.Math.ListN.{set, length-set}
-use Rattle.upd_compile.specs.Reach.{VisitsMore, is_in, is_flagged}
 
 pub and-true : (b : Bool) → (b && true) ≡ b
 and-true true = refl

@@ -1,9 +1,8 @@
 -- The positions reached so far, and the work that is left.
-use Rattle.std.proofs.Common.{◌≡◌, ℕ, ◌<◌, ◌==◌, ⊎_elim, nat_lt, Bool, true, false, ◌&&◌, not, List, [], ◌∷◌, ◌++◌, length, Some, None, slice_get, refl, sym}
-use Rattle.std.proofs.Common.{◌∙◌, arith}
-use Rattle.std.proofs.lemmas.Bool.{false≢true, not-false, and_from, and_parts, or_from, or_parts, eq-eqb, or_cases, or_left, or_right, cases_Bool, eqb-true}
-use Rattle.std.proofs.lemmas.Bool.{lt-ltb}
-use Rattle.upd_compile.specs.Reach.{VisitsMore, follows, is_in, is_flagged}
+use Rattle.upd_compile.proofs.Common.{◌≡◌, ℕ, ◌<◌, ◌==◌, ⊎_elim, nat_lt, Bool, true, false, ◌&&◌, not, List, [], ◌∷◌, ◌++◌, length, Some, None, slice_get}
+use Rattle.upd_compile.proofs.Common.{refl, sym, ◌∙◌, arith, false≢true, and_from, and_parts, eq-eqb, or_cases, or_left, or_right, cases_Bool, eqb-true}
+use Rattle.upd_compile.proofs.Common.{lt-ltb, VisitsMore, follows, is_in, is_flagged}
+use Rattle.std.proofs.lemmas.Bool.{not-false, or_from, or_parts}
 use Rattle.upd_compile.proofs.ReachLemmas.{is_in-push}
 
 -- A position that is visited has its followers visited, or is work.
@@ -48,7 +47,8 @@ reaching-more followers next seeds flags visited work still position found more 
       (r.is_closed c d was (is_in-push work position c ∙ or_from (is_in work c) (position == c) parts.0 other) f within))
       (cases_Bool (position == c)));
   is_work = λ c e.
-      ⊎_elim (λ old. more.visits_more c ∙ or_left (is_flagged flags c) _ (r.is_work c (is_in-push work position c ∙ or_left (is_in work c) (position == c) old)))
+      ⊎_elim (λ old. more.visits_more c
+      ∙ or_left (is_flagged flags c) _ (r.is_work c (is_in-push work position c ∙ or_left (is_in work c) (position == c) old)))
       (λ new. (and_parts (is_flagged visited c) (not (is_flagged flags c)) new).0)
       (or_cases (is_in work c) _ (sym (more.opened c) ∙ e));
   is_least = λ test closed seeded k e.

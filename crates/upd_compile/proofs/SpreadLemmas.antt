@@ -1,18 +1,11 @@
 -- The flags of decks that spread a change, by the positions that are reached from changed ones.
-use Rattle.std.proofs.Common.{◌≡◌, ℕ, zero, suc, ◌<◌, ◌==◌, ⊎_elim, nat_lt, Bool, true, false, ◌&&◌, ◌||◌, if◌then◌else◌, List, [], ◌∷◌, map, length, Option}
-use Rattle.std.proofs.Common.{Some, None, slice_get, refl, sym, ap, ◌∙◌, subst, arith}
-use Rattle.std.specs.List.{list_any, filter_map, cons_option, zip, AllByRecursion}
-use Rattle.std.specs.Option.{option_map, option_map_or, option_and_then}
-use Rattle.std.proofs.lemmas.Bool.{false≢true, and_parts, and_from, and_right, or_cases, or_left, or_right, eqb-true, eq-eqb, lt-ltb}
-use Rattle.std.proofs.lemmas.List.Folds.{Any-from_list_any, list_any-from_Any}
-use Rattle.std.proofs.lemmas.List.{length-map}
-use Rattle.std.proofs.lemmas.Option.{slice_get-map, slice_get_within}
-use Rattle.upd_core.specs.Actives.{ActiveDeckView, ActivesView}
-use Rattle.upd_text.specs.Lines.{is_call, called}
-use Rattle.upd_compile.specs.Chosen.{called_decks, has_chain, is_changed, is_passed_on}
-use Rattle.upd_compile.specs.Positions.{called_position, called_positions, position_named}
-use Rattle.upd_compile.specs.Reach.{AreCallers, AreReached, follows, is_in, is_flagged}
-use Rattle.upd_compile.specs.Walk.{common_named, text_cards}
+use Rattle.upd_compile.proofs.Common.{◌≡◌, ℕ, zero, suc, ◌<◌, ◌==◌, ⊎_elim, nat_lt, Bool, true, false, ◌&&◌, ◌||◌, if◌then◌else◌, List, [], ◌∷◌, map, length}
+use Rattle.upd_compile.proofs.Common.{Option, Some, None, slice_get, refl, sym, ap, ◌∙◌, subst, arith, list_any, filter_map, cons_option, zip, AllByRecursion}
+use Rattle.upd_compile.proofs.Common.{option_map, option_map_or, option_and_then, false≢true, and_parts, and_from, and_right, or_cases, or_left, or_right}
+use Rattle.upd_compile.proofs.Common.{eqb-true, eq-eqb, lt-ltb, Any-from_list_any, list_any-from_Any, length-map, slice_get-map, slice_get_within}
+use Rattle.upd_compile.proofs.Common.{ActiveDeckView, ActivesView, is_call, called, called_decks, has_chain, is_changed, is_passed_on, called_positions}
+use Rattle.upd_compile.proofs.Common.{position_named, AreCallers, AreReached, follows, is_in, is_flagged, common_named, text_cards}
+use Rattle.upd_compile.specs.Positions.{called_position}
 use Rattle.upd_compile.proofs.ChainLemmas.{settled-at_length, spreads, has_chain_within-spreads}
 use Rattle.upd_compile.proofs.ListLemmas.{list_any-same}
 use Rattle.upd_compile.proofs.PositionLemmas.{common_named-position}

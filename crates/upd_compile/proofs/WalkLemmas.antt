@@ -1,15 +1,9 @@
 -- Walks one after the other.
-use Rattle.std.proofs.Common.{◌≡◌, ℕ, zero, suc, sub-one, ◌+◌, ◌-◌, ◌<◌, true, false, ◌==◌, ◌&&◌, List, [], ◌∷◌, ◌++◌, map, drop, length, get_or, Bor, Some}
-use Rattle.std.proofs.Common.{None, Ok, Err, Result, refl, arith, ◌∙◌}
-use Rattle.std.specs.List.{flat_map}
-use Rattle.std.proofs.lemmas.List.{at_drop_more}
-use Rattle.upd_text.specs.declared.fault.FaultKind.{FaultKind}
-use Rattle.upd_core.specs.declared.ident.Ident.{Ident}
-use Rattle.upd_core.specs.Actives.{ActiveCardView, ActiveDeckView, ActivesView}
-use Rattle.upd_text.specs.Lines.{is_call, called}
-use Rattle.upd_text.specs.Outcome.{◌>>=◌}
-use Rattle.upd_compile.specs.Progress.{ProgressView, after_event, after_events}
-use Rattle.upd_compile.specs.Walk.{WalkEvent, Line, Follow, Unknown, common_named, card_events, walk}
+use Rattle.upd_compile.proofs.Common.{◌≡◌, ℕ, zero, suc, ◌+◌, ◌-◌, ◌<◌, true, false, ◌==◌, ◌&&◌, List, [], ◌∷◌, ◌++◌, map, drop, length, get_or, Some, None}
+use Rattle.upd_compile.proofs.Common.{Ok, Err, Result, refl, arith, ◌∙◌, flat_map, at_drop_more, FaultKind, Ident, ActiveCardView, ActiveDeckView}
+use Rattle.upd_compile.proofs.Common.{ActivesView, is_call, called, ◌>>=◌, ProgressView, after_event, after_events, WalkEvent, Line, Follow, Unknown}
+use Rattle.upd_compile.proofs.Common.{common_named, card_events, walk}
+use Rattle.std.proofs.Common.{sub-one, Bor}
 
 -- events after events
 pub after_events-append : (idents : List Ident) (es fs : List WalkEvent) (p : ProgressView)

@@ -1,19 +1,17 @@
 -- A compile file written event by event is the file of its walk.
-use Rattle.std.proofs.Common.{◌≡◌, zero-add, add-zero, ◌+◌, nat_lt, Bool, true, false, cond, List, [], ◌∷◌, ◌++◌, length, take, Some, None, Ok, Err, Result}
-use Rattle.std.proofs.Common.{refl, sym, ap, ◌∙◌, subst, arith, append_assoc, append-nil, count_by}
+use Rattle.upd_compile.proofs.Common.{◌≡◌, ◌+◌, nat_lt, Bool, true, false, cond, List, [], ◌∷◌, ◌++◌, length, take, Some, None, Ok, Err, Result, refl, sym}
+use Rattle.upd_compile.proofs.Common.{ap, ◌∙◌, subst, arith, count_by, filter_map, flat_map, FaultKind, Ident, ActiveCardView, ◌>>=◌, FileView, written}
+use Rattle.upd_compile.proofs.Common.{ProgressView, after_events, at_start, WalkEvent, Line, Follow, Depth, Unknown}
+use Rattle.std.proofs.Common.{zero-add, add-zero, append_assoc, append-nil}
 use Rattle.std.proofs.lemmas.List.{length-append}
-use Rattle.std.specs.List.{enumerate_from, filter_map, flat_map}
+use Rattle.std.specs.List.{enumerate_from}
 use Rattle.std.proofs.Math.Seq.{take-append_seam}
 use Rattle.std.proofs.lemmas.List.Sums.{sum_by-append, sum_by-cons}
-use Rattle.upd_text.specs.declared.fault.FaultKind.{FaultKind}
 use Rattle.upd_text.specs.declared.fault.FaultKind.TheVariants.{CompileLong}
-use Rattle.upd_core.specs.declared.ident.Ident.{Ident}
 use Rattle.upd_text.specs.declared.limits.TheConstants.{MAX_COMPILE_LINES, MAX_CALLS}
-use Rattle.upd_core.specs.Actives.{ActiveCardView}
-use Rattle.upd_text.specs.Outcome.{◌>>=◌, at_line}
-use Rattle.upd_compile.specs.File.{FileView, card_line, event_fault, event_line, is_follow, is_line, walk_faults, written}
-use Rattle.upd_compile.specs.Progress.{ProgressView, after_events, at_start, file_so_far}
-use Rattle.upd_compile.specs.Walk.{WalkEvent, Line, Follow, Depth, Unknown}
+use Rattle.upd_text.specs.Outcome.{at_line}
+use Rattle.upd_compile.specs.File.{card_line, event_fault, event_line, is_follow, is_line, walk_faults}
+use Rattle.upd_compile.specs.Progress.{file_so_far}
 
 -- what these events add, unless there is a fault
 abbrev pub Adds : List Ident → List WalkEvent → ProgressView → List FaultKind → Type 0

@@ -1,9 +1,10 @@
 -- Texts that lie in one buffer, when the buffer grows.
-use Rattle.std.proofs.Common.{◌≡◌, ℕ, suc, ◌+◌, ◌-◌, ◌≤◌, List, [], ◌∷◌, ◌++◌, length, take, drop, map, refl, ap, ◌∙◌, arith, All}
+use Rattle.upd_core.proofs.Common.{◌≡◌, ℕ, suc, ◌+◌, ◌-◌, ◌≤◌, List, [], ◌∷◌, ◌++◌, length, take, drop, map, refl, ap, ◌∙◌, arith, All, length-append}
+use Rattle.upd_core.proofs.Common.{length-drop, card_in_texts}
 use Rattle.std.specs.Prelude.{slice_range}
-use Rattle.std.proofs.lemmas.List.{take-append-le, drop-append-le, length-append, length-drop, map-append}
+use Rattle.std.proofs.lemmas.List.{take-append-le, drop-append-le, map-append}
 use Rattle.std.proofs.Math.Seq.{drop-append_seam, take-length}
-use Rattle.upd_core.specs.ActiveTexts.{LiesIn, card_in_texts}
+use Rattle.upd_core.specs.ActiveTexts.{LiesIn}
 use Rattle.upd_core.specs.declared.actives.Ranged.{Ranged}
 use Rattle.upd_text.specs.Units.{Bytes}
 

@@ -1,10 +1,8 @@
 -- Elements at their indices, and lists whose elements differ.
-use Rattle.std.proofs.Common.{◌≡◌, ℕ, zero, suc, ◌+◌, ◌-◌, ◌<◌, ◌≤◌, Bool, true, false, List, [], ◌∷◌, ◌++◌, length, map, slice_get, Some, refl, sym, ap, ◌∙◌}
-use Rattle.std.proofs.Common.{subst, arith}
-use Rattle.std.proofs.lemmas.Option.{same_Some, slice_get_read, slice_get_within, get_or_from_slice_get}
-use Rattle.std.specs.List.{find, AllByRecursion, Contains}
-use Rattle.upd_core.specs.First.{index_from}
-use Rattle.upd_core.specs.Sound.{AreApart, AreRising}
+use Rattle.upd_core.proofs.Common.{◌≡◌, ℕ, zero, suc, ◌+◌, ◌-◌, ◌<◌, ◌≤◌, Bool, true, false, List, [], ◌∷◌, ◌++◌, length, map, slice_get, Some, refl, sym, ap}
+use Rattle.upd_core.proofs.Common.{◌∙◌, subst, arith, same_Some, find, AllByRecursion, Contains, index_from, AreApart}
+use Rattle.std.proofs.lemmas.Option.{slice_get_read, slice_get_within, get_or_from_slice_get}
+use Rattle.upd_core.specs.Sound.{AreRising}
 
 -- ---- elements at indices
 

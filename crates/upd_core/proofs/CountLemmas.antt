@@ -1,17 +1,13 @@
 -- How the counts of a library grow with its edits.
-use Rattle.std.proofs.Common.{◌≡◌, ℕ, ◌+◌, ◌*◌, ◌-◌, ◌≤◌, Bool, true, false, if◌then◌else◌, List, [], ◌∷◌, ◌++◌, length, map, take, drop, insert, find, sum_by}
-use Rattle.std.proofs.Common.{Option, Some, None, is_some, length-append, refl, ap, ◌∙◌, sym, arith, add-zero}
-use Rattle.std.specs.Option.{option_map_or}
-use Rattle.std.proofs.lemmas.List.{take-take, length-map, length-take, length-drop}
+use Rattle.upd_core.proofs.Common.{◌≡◌, ℕ, ◌+◌, ◌-◌, ◌≤◌, Bool, true, false, if◌then◌else◌, List, [], ◌∷◌, ◌++◌, length, map, take, drop, insert, sum_by}
+use Rattle.upd_core.proofs.Common.{Option, Some, None, is_some, refl, ap, ◌∙◌, sym, arith, option_map_or, length-map, length-drop, sum_by-take-drop, Entry}
+use Rattle.upd_core.proofs.Common.{capped, entered, entered_range, at_first, CardView, DeckView, LibraryView, is_deck, entered_count, entered_in, inserted_in}
+use Rattle.std.proofs.Common.{◌*◌, find, length-append, add-zero}
+use Rattle.std.proofs.lemmas.List.{take-take, length-take}
 use Rattle.std.proofs.lemmas.List.Edits.{length-insert}
-use Rattle.std.proofs.lemmas.List.Sums.{sum_by-cons, sum_by-append, sum_by-take-drop, sum_by-insert}
-use Rattle.upd_core.specs.declared.card.Entry.{Entry}
+use Rattle.std.proofs.lemmas.List.Sums.{sum_by-cons, sum_by-append, sum_by-insert}
 use Rattle.upd_core.specs.declared.counts.Counts.{Counts}
-use Rattle.upd_core.specs.Counts.{capped, AreOf}
-use Rattle.upd_core.specs.Edits.{entered, entered_range}
-use Rattle.upd_core.specs.First.{at_first}
-use Rattle.upd_core.specs.Library.{CardView, DeckView, LibraryView, is_deck}
-use Rattle.upd_core.specs.EditParts.{entered_count, entered_in, inserted_in}
+use Rattle.upd_core.specs.Counts.{AreOf}
 
 -- where the first element that passes is changed, a sum gains what that element gains
 pub sum_by-at_first : {A : Type 0} (test : A → Bool) (change : A → A) (f gain : A → ℕ) (xs : List A) → ((x : A) → f (change x) ≡ f x + gain x) →

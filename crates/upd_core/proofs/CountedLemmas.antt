@@ -1,18 +1,14 @@
 -- Counts of targets: equal targets, and one more target counted.
-use Rattle.std.proofs.Common.{◌≡◌, ℕ, ◌+◌, ◌<◌, ◌≤◌, min, Bool, true, false, ◌&&◌, if◌then◌else◌, List, take, length, get_or, count_by, cond, Some, Option}
-use Rattle.std.proofs.Common.{unwrap_or, refl, ap, sym, ◌∙◌, arith}
-use Rattle.std.specs.Prelude.{◌==◌}
-use Rattle.std.proofs.lemmas.Bool.Decides.{nat_tests, Decides-eqb}
-use Rattle.std.proofs.lemmas.List.Sums.{count_by_more_yes, count_by_more_no, sum_by-take-drop}
+use Rattle.upd_core.proofs.Common.{◌≡◌, ℕ, ◌+◌, ◌<◌, ◌≤◌, min, Bool, true, false, ◌&&◌, if◌then◌else◌, List, take, length, get_or, count_by, cond, Some}
+use Rattle.upd_core.proofs.Common.{Option, refl, ap, sym, ◌∙◌, arith, ◌==◌, nat_tests, Decides-eqb, sum_by-take-drop, count_in, Target, Set, SetIn, Deck}
+use Rattle.upd_core.proofs.Common.{is_same}
+use Rattle.std.proofs.Common.{unwrap_or}
+use Rattle.std.proofs.lemmas.List.Sums.{count_by_more_yes, count_by_more_no}
 use Rattle.std.specs.BTreeMap as tree
 use Rattle.std.specs.BTreeMap.{BTreeMap, is_at}
 use Rattle.std.specs.Map.{lookup}
 use Rattle.std.specs.Ordering.{is_eq}
 use Rattle.upd_core.specs.contracts.target.TargetOrd.TheImpl as order
-use Rattle.upd_core.specs.TargetCounts.{count_in}
-use Rattle.upd_core.specs.declared.target.Target.{Target}
-use Rattle.upd_core.specs.declared.target.Target.TheVariants.{Set, SetIn, Deck}
-use Rattle.upd_core.specs.Targets.{is_same}
 
 both_equal : (a b c d : ℕ) → ((a == b) && (c == d)) ≡ true → (a ≡ b) × (c ≡ d)
 both_equal a b c d e = go (a == b) refl (c == d) refl e

@@ -1,11 +1,7 @@
 -- Cards that had an entry for a while.
-use Rattle.std.proofs.Common.{◌≡◌, ℕ, ◌-◌, ◌<◌, List, [], ◌∷◌, ◌++◌, map, length, take, drop, get_or, set, refl, ap, ◌∙◌, arith}
-use Rattle.std.proofs.lemmas.Grind.{common_steps}
-use Rattle.std.proofs.lemmas.List.{length-map, length-take-le, set-get_or, take-append-drop, take_at, drop_at}
-use Rattle.upd_core.specs.declared.card.Entry.{Entry}
-use Rattle.upd_core.specs.Edits.{entered}
-use Rattle.upd_core.specs.Library.{CardView}
-use Rattle.upd_core.specs.EditParts.{without_last}
+use Rattle.upd_core.proofs.Common.{◌≡◌, ℕ, ◌-◌, ◌<◌, List, [], ◌∷◌, ◌++◌, map, length, take, drop, get_or, set, refl, ap, ◌∙◌, arith, common_steps}
+use Rattle.upd_core.proofs.Common.{length-map, length-take-le, Entry, entered, CardView, without_last}
+use Rattle.std.proofs.lemmas.List.{set-get_or, take-append-drop, take_at, drop_at}
 
 pushed_left : (es : List Entry) (e : Entry) → take (length (es ++ e ∷ []) - 1) (es ++ e ∷ []) ≡ es
 pushed_left es e = grind (arith, common_steps)

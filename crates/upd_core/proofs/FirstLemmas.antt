@@ -1,8 +1,7 @@
 -- The first element that passes a test: its index, and the list with it changed.
-use Rattle.std.proofs.Common.{◌≡◌, ℕ, suc, ◌+◌, ◌-◌, ◌≤◌, Bool, true, false, if◌then◌else◌, List, [], ◌∷◌, get_or, set, find, Option, Some, None, refl, ap, ◌∙◌}
-use Rattle.std.proofs.Common.{arith, sym}
-use Rattle.std.proofs.lemmas.Option.{same_Some}
-use Rattle.upd_core.specs.First.{index_from, at_first}
+use Rattle.upd_core.proofs.Common.{◌≡◌, ℕ, suc, ◌+◌, ◌-◌, ◌≤◌, Bool, true, false, if◌then◌else◌, List, [], ◌∷◌, get_or, set, Option, Some, None, refl, ap}
+use Rattle.upd_core.proofs.Common.{◌∙◌, arith, sym, same_Some, index_from, at_first}
+use Rattle.std.proofs.Common.{find}
 
 -- a list with the element at an index changed
 abbrev changed_at : {A : Type 0} → (A → A) → List A → ℕ → A → List A

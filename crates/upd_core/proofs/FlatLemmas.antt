@@ -1,7 +1,5 @@
 -- A loop that adds, for each element, what comes of it.
-use Rattle.std.proofs.Common.{◌≡◌, ℕ, ◌+◌, ◌<◌, List, ◌∷◌, ◌++◌, length, drop, get_or, ap, sym, ◌∙◌, append_assoc}
-use Rattle.std.specs.List.{flat_map}
-use Rattle.std.proofs.lemmas.List.{drop_more}
+use Rattle.upd_core.proofs.Common.{◌≡◌, ℕ, ◌+◌, ◌<◌, List, ◌∷◌, ◌++◌, length, drop, get_or, ap, sym, ◌∙◌, append_assoc, flat_map, drop_more}
 
 -- the step of the loop at the element x
 pub flat_more : {X Y : Type 0} (f : X → List Y) (xs : List X) (i : ℕ) (d x : X) (found now whole : List Y) → i < length xs → x ≡ get_or xs i d →

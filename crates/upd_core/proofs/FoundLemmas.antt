@@ -1,22 +1,13 @@
 -- Cards in a sound library: each is found by its own reference, and a reference finds no other card.
-use Rattle.std.proofs.Common.{◌≡◌, ℕ, zero, suc, ◌+◌, ◌-◌, ◌≤◌, Bool, true, false, ◌&&◌, List, [], ◌∷◌, ◌++◌, map, slice_get, Option, Some, None, refl, sym}
-use Rattle.std.proofs.Common.{ap, ◌∙◌, subst, arith}
-use Rattle.std.proofs.lemmas.Bool.Decides.{nat_tests, Decides-eqb}
+use Rattle.upd_core.proofs.Common.{◌≡◌, ℕ, zero, suc, ◌+◌, ◌-◌, ◌≤◌, Bool, true, false, ◌&&◌, List, [], ◌∷◌, ◌++◌, map, slice_get, Option, Some, None, refl}
+use Rattle.upd_core.proofs.Common.{sym, ap, ◌∙◌, subst, arith, nat_tests, Decides-eqb, same_Some, ◌==◌, option_map, option_map_or, option_and_then, filter}
+use Rattle.upd_core.proofs.Common.{flat_map, AllByRecursion, Contains, CardRef, Ident, Place, index_from, CardView, DeckView, LibraryView, all_decks, card_in}
+use Rattle.upd_core.proofs.Common.{held_named, is_card, is_deck, place_in, place_of, ref_of, AreApart, IsSound, is_active, live_targets, status_of}
 use Rattle.std.proofs.lemmas.List.Elements.{Contains-append_left, Contains-append_right}
-use Rattle.std.proofs.lemmas.Option.{same_Some}
 use Rattle.std.proofs.lemmas.Slice.Eq.{bytes_eq-Decides}
-use Rattle.std.specs.Prelude.{◌==◌}
-use Rattle.std.specs.Option.{option_map, option_map_or, option_and_then}
 use Rattle.std.specs.Str.{bytes_eq}
-use Rattle.std.specs.List.{filter, flat_map, AllByRecursion, Contains}
-use Rattle.upd_text.specs.declared.card_ref.CardRef.{CardRef}
-use Rattle.upd_core.specs.declared.ident.Ident.{Ident}
-use Rattle.upd_core.specs.declared.library.Place.{Place}
-use Rattle.upd_core.specs.First.{index_from}
-use Rattle.upd_core.specs.Library.{CardView, DeckView, LibraryView, all_decks, card_in, cards_of, held_named, ident_of, is_card, is_deck, name_of, place_in}
-use Rattle.upd_core.specs.Library.{place_of, ref_of}
-use Rattle.upd_core.specs.Sound.{AreApart, AreAgedFrom, IsOfHeld, IsSound, all_cards, is_held, key_of}
-use Rattle.upd_core.specs.Status.{is_active, live_targets, status_of}
+use Rattle.upd_core.specs.Library.{cards_of, ident_of, name_of}
+use Rattle.upd_core.specs.Sound.{AreAgedFrom, IsOfHeld, all_cards, is_held, key_of}
 use Rattle.upd_core.proofs.ApartLemmas.{contained_at, at_contained, all_at, all_by_index, all_of_contained, all_mapped, apart_front, apart_back}
 use Rattle.upd_core.proofs.ApartLemmas.{apart_across, apart_same, find_first, find_later, find_only, index_found, rising_apart}
 

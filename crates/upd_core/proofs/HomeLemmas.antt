@@ -1,15 +1,12 @@
 -- Which cards are in the decks of their own idents, as decks are edited.
-use Rattle.std.proofs.Common.{◌≡◌, ℕ, suc, ◌+◌, Bool, true, false, not, ◌||◌, ◌&&◌, if◌then◌else◌, ◌-◌, List, [], ◌∷◌, ◌++◌, length, map, take, drop, get_or, insert, filter}
-use Rattle.std.proofs.Common.{Option, Some, None, refl, arith, All}
-use Rattle.std.proofs.lemmas.Bool.Decides.{nat_tests}
+use Rattle.upd_core.proofs.Common.{◌≡◌, ℕ, suc, ◌+◌, Bool, true, false, not, ◌||◌, ◌&&◌, if◌then◌else◌, ◌-◌, List, [], ◌∷◌, ◌++◌, length, map, take, drop}
+use Rattle.upd_core.proofs.Common.{get_or, insert, Option, Some, None, refl, arith, All, nat_tests, ◌==◌, Entry, entered_in, inserted_in, deck_without}
+use Rattle.upd_core.proofs.Common.{entered, entered_range, without_entries, without_idents, at_first, index_from, AreHome, StayNoted, is_home, CardView}
+use Rattle.upd_core.proofs.Common.{DeckView, is_card, is_deck}
+use Rattle.std.proofs.Common.{filter}
 use Rattle.std.proofs.lemmas.List.Elements.{All-append, All-cons, All-drop, All-filter, All-map, All-take}
-use Rattle.std.specs.Prelude.{◌==◌}
-use Rattle.upd_core.specs.declared.card.Entry.{Entry}
-use Rattle.upd_core.specs.EditParts.{entered_in, inserted_in}
-use Rattle.upd_core.specs.Edits.{deck_without, decks_without, entered, entered_range, without_entries, without_idents}
-use Rattle.upd_core.specs.First.{at_first, index_from}
-use Rattle.upd_core.specs.Homes.{AreHome, IsHome, StayNoted, is_home, may_stray}
-use Rattle.upd_core.specs.Library.{CardView, DeckView, is_card, is_deck}
+use Rattle.upd_core.specs.Edits.{decks_without}
+use Rattle.upd_core.specs.Homes.{IsHome, may_stray}
 
 -- ---- flags
 
@@ -60,7 +57,8 @@ home_inserted flags age behind card decks here home = at_first_all (IsHome flags
         All-append P (take at d.cards) (card ∷ drop at d.cards) (All-take P at d.cards all) (All-cons P card (drop at d.cards) one (All-drop P at d.cards all))
 
 -- entries on a range of cards
-pub home_entered : (flags : List Bool) (age from to : ℕ) (e : Entry) (decks : List DeckView) → AreHome flags decks → AreHome flags (entered_in age from to e decks)
+pub home_entered : (flags : List Bool) (age from to : ℕ) (e : Entry) (decks : List DeckView) → AreHome flags decks
+    → AreHome flags (entered_in age from to e decks)
 home_entered flags age from to e decks home = at_first_all (IsHome flags) (is_deck age) _ decks entered_there home
   where
     entered_there : (d : DeckView) → is_deck age d ≡ true → IsHome flags d → IsHome flags (record d { cards = entered_range from to e d.cards })

@@ -1,6 +1,7 @@
 -- A list changed in place, element by element.
-use Rattle.std.proofs.Common.{◌≡◌, ℕ, ◌+◌, ◌<◌, List, [], ◌∷◌, ◌++◌, map, length, take, drop, get_or, set, ap, sym, ◌∙◌, arith, append_assoc}
-use Rattle.std.proofs.lemmas.List.{length-map, length-take-le, drop_more, map_more, set_at, get_or_at}
+use Rattle.upd_core.proofs.Common.{◌≡◌, ℕ, ◌+◌, ◌<◌, List, [], ◌∷◌, ◌++◌, map, length, take, drop, get_or, set, ap, sym, ◌∙◌, arith, append_assoc, length-map}
+use Rattle.upd_core.proofs.Common.{length-take-le, drop_more}
+use Rattle.std.proofs.lemmas.List.{map_more, set_at, get_or_at}
 
 -- the next element x of a list whose elements so far were changed by f
 pub map_over_more : {A : Type 0} (f : A → A) (xs ys : List A) (i : ℕ) (d x y : A) → i < length xs → ys ≡ map f (take i xs) ++ drop i xs → x ≡ get_or ys i d →

@@ -11,5 +11,6 @@ pub mod LiveLemmas
 pub mod FlatLemmas
 pub mod CountedLemmas
 pub mod ActiveLemmas
+pub mod Common
 pub mod HomeLemmas
 mod EnterLemmas

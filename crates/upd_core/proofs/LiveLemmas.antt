@@ -1,9 +1,7 @@
 -- The live cards of `YANK$$$`, one card at a time: what a loop from the last card to the first meets.
-use Rattle.std.proofs.Common.{◌≡◌, ℕ, ◌+◌, ◌<◌, Bool, true, false, if◌then◌else◌, List, ◌∷◌, ◌++◌, length, drop, set, get_or, refl, ap, sym, ◌∙◌, arith}
-use Rattle.std.proofs.lemmas.List.{drop_more, drop-set}
-use Rattle.upd_core.specs.declared.target.Target.{Target}
-use Rattle.upd_core.specs.Library.{CardView}
-use Rattle.upd_core.specs.Status.{is_good, targets_of, live_cards, liveness}
+use Rattle.upd_core.proofs.Common.{◌≡◌, ℕ, ◌+◌, ◌<◌, Bool, true, false, if◌then◌else◌, List, ◌∷◌, ◌++◌, length, drop, set, get_or, refl, ap, sym, ◌∙◌, arith}
+use Rattle.upd_core.proofs.Common.{drop_more, Target, CardView, is_good, targets_of, live_cards, liveness}
+use Rattle.std.proofs.lemmas.List.{drop-set}
 
 -- the live cards of a list, given those after its first card y
 abbrev pub live_before : CardView → List CardView → List CardView

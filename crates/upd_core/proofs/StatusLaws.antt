@@ -1,18 +1,11 @@
 -- Facts about histories and live cards.
-use Rattle.std.proofs.Common.{◌≡◌, ℕ, ◌+◌, ◌-◌, ◌<◌, ◌≤◌, ◌==◌, Bool, true, false, not, if◌then◌else◌, List, [], ◌∷◌, ◌++◌, length, take, get_or, slice_get}
-use Rattle.std.proofs.Common.{map, Option, Some, None, refl, sym, ap, ◌∙◌, append-nil, arith}
-use Rattle.std.specs.List.{filter}
-use Rattle.std.specs.Option.{option_and_then}
-use Rattle.std.proofs.lemmas.Bool.Decides.{nat_tests}
+use Rattle.upd_core.proofs.Common.{◌≡◌, ℕ, ◌+◌, ◌-◌, ◌<◌, ◌≤◌, Bool, true, false, not, if◌then◌else◌, List, [], ◌∷◌, ◌++◌, length, take, get_or, slice_get}
+use Rattle.upd_core.proofs.Common.{map, Option, Some, None, refl, sym, ap, ◌∙◌, arith, filter, option_and_then, nat_tests, Entry, CardRef, Ident, index_from}
+use Rattle.upd_core.proofs.Common.{DeckView, LibraryView, all_decks, held_named, is_card, place_in, place_of, AreApart, IsSound, ends_on, stays_on, liveness}
+use Rattle.upd_core.proofs.Common.{live_of, live_yank, yank_at}
+use Rattle.std.proofs.Common.{◌==◌, append-nil}
 use Rattle.std.proofs.lemmas.List.{take_more}
 use Rattle.std.proofs.lemmas.List.Elements.{filter-append}
-use Rattle.upd_core.specs.declared.card.Entry.{Entry}
-use Rattle.upd_text.specs.declared.card_ref.CardRef.{CardRef}
-use Rattle.upd_core.specs.declared.ident.Ident.{Ident}
-use Rattle.upd_core.specs.First.{index_from}
-use Rattle.upd_core.specs.Library.{DeckView, LibraryView, all_decks, held_named, is_card, place_in, place_of}
-use Rattle.upd_core.specs.Sound.{AreApart, IsSound}
-use Rattle.upd_core.specs.Status.{ends_on, stays_on, liveness, live_of, live_yank, yank_at}
 use Rattle.upd_core.proofs.ApartLemmas.{rising_apart}
 
 -- the last entry decides

@@ -1,11 +1,5 @@
 -- An index of targets answers what the list of them does.
-use Rattle.std.proofs.Common.{◌≡◌, ℕ, ◌||◌, List, [], ◌∷◌, refl, arith}
-use Rattle.std.specs.List.{list_any}
-use Rattle.std.proofs.lemmas.Bool.Decides.{nat_tests}
-use Rattle.upd_core.specs.declared.target.Target.{Target}
-use Rattle.upd_core.specs.declared.target.Target.TheVariants.{Set, SetIn, Deck}
-use Rattle.upd_core.specs.Status.{takes, is_taken}
-use Rattle.upd_core.specs.Targets.{is_same}
+use Rattle.upd_core.proofs.Common.{◌≡◌, ℕ, ◌||◌, List, [], ◌∷◌, refl, arith, list_any, nat_tests, Target, Set, SetIn, Deck, takes, is_taken, is_same}
 
 -- what takes an ident in a deck is one of two targets
 takes-split : (d z : ℕ) (t : Target) → takes d z t ≡ (is_same (Set z) t || is_same (SetIn z d) t)

@@ -1,14 +1,10 @@
 -- The live cards are the one solution of their equation.
-use Rattle.std.proofs.Common.{◌≡◌, ℕ, ◌≤◌, Bool, true, false, cond, not, ◌||◌, List, [], ◌∷◌, ◌++◌, refl, sym, ap, ◌∙◌, subst, arith}
-use Rattle.std.proofs.lemmas.Bool.{ne_eqb}
+use Rattle.upd_core.proofs.Common.{◌≡◌, ℕ, ◌≤◌, Bool, true, false, cond, not, ◌||◌, List, [], ◌∷◌, ◌++◌, refl, sym, ap, ◌∙◌, subst, arith, ne_eqb, list_any}
+use Rattle.upd_core.proofs.Common.{filter, AllByRecursion, Entry, Target, Set, SetIn, Deck, CardView, takes, is_taken, ends_on, is_good, targets_of}
+use Rattle.upd_core.proofs.Common.{live_cards, TakesOlder, IsAged}
 use Rattle.std.proofs.lemmas.List.Folds.{list_any-append}
-use Rattle.std.specs.List.{list_any, filter, AllByRecursion}
-use Rattle.upd_core.specs.declared.card.Entry.{Entry}
-use Rattle.upd_core.specs.declared.target.Target.{Target}
-use Rattle.upd_core.specs.declared.target.Target.TheVariants.{Set, SetIn, Deck}
-use Rattle.upd_core.specs.Library.{CardView}
 use Rattle.upd_core.proofs.LiveLemmas.{live_before, good_before, bad_before}
-use Rattle.upd_core.specs.Status.{takes, is_taken, ends_on, is_good, targets_of, live_cards, TakesOlder, HasEntriesFrom, IsAged, AreLive}
+use Rattle.upd_core.specs.Status.{HasEntriesFrom, AreLive}
 
 -- older targets take no younger ident
 takes_none : (age z d : ℕ) → age ≤ z → (more : List Target) → AllByRecursion (TakesOlder age) more → list_any (takes d z) more ≡ false

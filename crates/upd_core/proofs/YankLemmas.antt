@@ -1,20 +1,10 @@
 -- In a sound library a yank card is active where it is live.
-use Rattle.std.proofs.Common.{◌≡◌, ℕ, Bool, true, false, ◌&&◌, List, [], ◌∷◌, ◌++◌, map, slice_get, Option, Some, None, refl, sym, ap, ◌∙◌}
-use Rattle.std.proofs.Common.{subst, arith}
-use Rattle.std.proofs.lemmas.Bool.{ne_eqb}
-use Rattle.std.proofs.lemmas.Bool.Decides.{Decides-eqb}
+use Rattle.upd_core.proofs.Common.{◌≡◌, ℕ, Bool, true, false, ◌&&◌, List, [], ◌∷◌, ◌++◌, map, slice_get, Option, Some, None, refl, sym, ap, ◌∙◌, subst, arith}
+use Rattle.upd_core.proofs.Common.{ne_eqb, Decides-eqb, ◌==◌, option_map, option_and_then, list_any, AllByRecursion, CardRef, Place, Target, Set, SetIn, Deck}
+use Rattle.upd_core.proofs.Common.{CardView, LibraryView, card_in, place_of, IsSound, is_good, targets_of, liveness, live_cards, live_targets, is_active}
+use Rattle.upd_core.proofs.Common.{status_of, live_of, live_yank, yank_at, TakesOlder, IsAged}
 use Rattle.std.proofs.lemmas.Option.{slice_get-map}
-use Rattle.std.specs.Prelude.{◌==◌}
-use Rattle.std.specs.Option.{option_map, option_and_then}
-use Rattle.std.specs.List.{list_any, AllByRecursion}
-use Rattle.upd_text.specs.declared.card_ref.CardRef.{CardRef}
-use Rattle.upd_core.specs.declared.library.Place.{Place}
-use Rattle.upd_core.specs.declared.target.Target.{Target}
-use Rattle.upd_core.specs.declared.target.Target.TheVariants.{Set, SetIn, Deck}
-use Rattle.upd_core.specs.Library.{CardView, LibraryView, card_in, place_of}
-use Rattle.upd_core.specs.Sound.{IsSound}
-use Rattle.upd_core.specs.Status.{takes_deck, is_good, targets_of, liveness, live_cards, live_targets, is_active, status_of, live_of, live_yank}
-use Rattle.upd_core.specs.Status.{yank_at, TakesOlder, IsAged}
+use Rattle.upd_core.specs.Status.{takes_deck}
 use Rattle.upd_core.proofs.WellFoundedLemmas.{all_good_same}
 use Rattle.upd_core.proofs.LiveLemmas.{good_before, bad_before}
 use Rattle.upd_core.proofs.StatusLaws.{live_yank-place_of}

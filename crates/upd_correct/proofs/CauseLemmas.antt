@@ -1,16 +1,10 @@
 -- Why there is no run.
-use Rattle.std.proofs.Common.{◌≡◌, ℕ, List, [], ◌++◌, sym, ap, ◌∙◌, subst}
-use Rattle.std.specs.Prelude.{Result, Ok, Err, IfErr, OnOk}
-use Rattle.upd_core.specs.Library.{LibraryView}
-use Rattle.upd_correct.specs.Corrections.{NewDeck}
-use Rattle.upd_correct.specs.declared.refusal.CorrectError.{CorrectError}
+use Rattle.upd_correct.proofs.Common.{◌≡◌, ℕ, List, [], ◌++◌, sym, ap, ◌∙◌, subst, Result, Ok, Err, LibraryView, NewDeck, CorrectError, Refusal, lines_in}
+use Rattle.upd_correct.proofs.Common.{part_name, AreReadFrom, lines_refusals, refusals_at, refusals_of}
+use Rattle.std.specs.Prelude.{IfErr, OnOk}
 use Rattle.upd_correct.specs.declared.refusal.CorrectError.TheVariants.{NoMemory, Refused}
-use Rattle.upd_correct.specs.declared.refusal.Refusal.{Refusal}
-use Rattle.upd_correct.specs.EditedText.{lines_in}
-use Rattle.upd_correct.specs.Parts.{IsPartsCause, part_name}
+use Rattle.upd_correct.specs.Parts.{IsPartsCause}
 use Rattle.upd_correct.specs.Problems.{set_problem}
-use Rattle.upd_correct.specs.ReadDecks.{AreReadFrom}
-use Rattle.upd_correct.specs.Refusals.{lines_refusals, refusals_at, refusals_of}
 
 pub on_ok : {A E P : Type 0} (result : Result A E) → P → OnOk result P
 on_ok (Ok x) p = p

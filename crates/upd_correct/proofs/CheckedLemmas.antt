@@ -1,20 +1,15 @@
 -- What a check shows of a run.
-use Rattle.std.proofs.Common.{◌≡◌, ℕ, ◌+◌, ◌<◌, Bool, true, false, not, List, [], ◌∷◌, ◌++◌, length, take, drop, find, Option, Some, None, if◌then◌else◌, refl, sym, ap, ◌∙◌, subst, arith}
-use Rattle.std.proofs.Common.{take-append-drop}
-use Rattle.std.specs.Prelude.{◌==◌}
-use Rattle.std.specs.List.{filter, AllByRecursion, AllZip}
-use Rattle.std.specs.Option.{option_map_or}
-use Rattle.upd_core.specs.declared.target.Target.{Target}
-use Rattle.upd_core.specs.Edits.{is_among, next_age}
-use Rattle.upd_core.specs.Library.{CardView, DeckView, LibraryView, cards_of, deck_of, is_deck}
-use Rattle.upd_core.specs.Status.{is_active, live_cards, live_targets, targets_of}
-use Rattle.upd_laws.proofs.SoundListLemmas.{all_weaker, is_same_number, same_number}
+use Rattle.upd_correct.proofs.Common.{◌≡◌, ℕ, ◌+◌, ◌<◌, Bool, true, false, not, List, [], ◌∷◌, ◌++◌, length, take, drop, Option, Some, None, refl, sym, ap}
+use Rattle.upd_correct.proofs.Common.{◌∙◌, subst, arith, ◌==◌, filter, AllByRecursion, AllZip, option_map_or, Target, next_age, CardView, DeckView}
+use Rattle.upd_correct.proofs.Common.{LibraryView, cards_of, deck_of, is_deck, is_active, live_targets, all_weaker, is_same_number, NewDeck, CorrectsTo}
+use Rattle.upd_correct.proofs.Common.{HasDecks, HasTexts, AreDecksFrom, AreLeft, Corrects, Empty, IsChecked, IsDeckLeft, LeadsCards, New, Old, held_serials}
+use Rattle.std.proofs.Common.{find, if◌then◌else◌, take-append-drop}
+use Rattle.upd_core.specs.Edits.{is_among}
+use Rattle.upd_core.specs.Status.{live_cards, targets_of}
+use Rattle.upd_laws.proofs.SoundListLemmas.{same_number}
 use Rattle.upd_correct.specs.Corrected.{active_cards}
-use Rattle.upd_correct.specs.Corrections.{NewDeck}
-use Rattle.upd_correct.specs.Correcting.{BeginsWithSet, CorrectsTo, IsSublist, KeepsCards, Kept, Left}
-use Rattle.upd_correct.specs.Correcting.{None as Nothing}
-use Rattle.upd_correct.specs.EditedText.{HasDecks}
-use Rattle.upd_correct.specs.Checked.{HasTexts, AreDecksFrom, AreLeft, Corrects, Empty, Goes, IsChecked, IsDeckLeft, LeadsCards, LeavesCards, New, Old, Stays, held_serials}
+use Rattle.upd_correct.specs.Correcting.{BeginsWithSet, IsSublist, KeepsCards, Kept, Left, None as Nothing}
+use Rattle.upd_correct.specs.Checked.{Goes, LeavesCards, Stays}
 
 -- ---- the cards that stay
 
@@ -48,7 +43,8 @@ after_in live d z c news on old = ap (filter (is_old z)) (filter_in (is_active l
 
 after_new : (live : List Target) (d z : ℕ) (c : CardView) (news : List CardView) → is_active live d c ≡ true → is_old z c ≡ false
     → old_after live d z (c ∷ news) ≡ old_after live d z news
-after_new live d z c news on new = ap (filter (is_old z)) (filter_in (is_active live d) c news on) ∙ filter_out (is_old z) c (filter (is_active live d) news) new
+after_new live d z c news on new = ap (filter (is_old z)) (filter_in (is_active live d) c news on)
+    ∙ filter_out (is_old z) c (filter (is_active live d) news) new
 
 after_off : (live : List Target) (d z : ℕ) (c : CardView) (news : List CardView) → is_active live d c ≡ false
     → old_after live d z (c ∷ news) ≡ old_after live d z news
@@ -146,7 +142,8 @@ deck_same l m set run decks d is less none =
 
 cards_kept : (l m : LibraryView) → l.yanks ≡ m.yanks → (t : NewDeck) → LeavesCards l m t → KeepsCards l m t
 cards_kept l m yanks t leaves d held =
-    subst (λ (live : List Target). IsSublist (filter (λ (card : CardView). not (card.ident == next_age l)) (filter (is_active live d) (cards_of d m))) (active_cards d l))
+    subst (λ (live : List Target). IsSublist (filter (λ (card : CardView). not (card.ident == next_age l)) (filter (is_active live d) (cards_of d m)))
+    (active_cards d l))
     (live_same l m yanks) (left_kept (live_targets l) d (next_age l) (cards_of d l) (cards_of d m) (leaves d held))
 
 pub checked_corrects : (l : LibraryView) (set text run : List ℕ) (decks : List NewDeck) → HasDecks text decks → BeginsWithSet set run

@@ -1,9 +1,7 @@
 -- A listing that is read has no more cards than a library may have.
-use Rattle.std.proofs.Common.{◌≡◌, ℕ, ◌≤◌, nat_lt, Bool, true, false, List, [], ◌∷◌, length, Option, Some, None, is_some, refl, arith}
-use Rattle.std.proofs.lemmas.Bool.Decides.{nat_tests}
-use Rattle.std.specs.List.{filter_map}
-use Rattle.upd_text.specs.declared.limits.TheConstants.{MAX_CARDS}
-use Rattle.upd_correct.specs.ListedDeck.{ListedView, bad_line, cards_listed, listed_card, listed_name}
+use Rattle.upd_correct.proofs.Common.{◌≡◌, ℕ, ◌≤◌, nat_lt, Bool, true, false, List, [], ◌∷◌, length, Option, Some, None, is_some, refl, arith, nat_tests}
+use Rattle.upd_correct.proofs.Common.{filter_map, MAX_CARDS, ListedView, listed_card, listed_name}
+use Rattle.upd_correct.specs.ListedDeck.{bad_line, cards_listed}
 
 kept_few : (lines : List (List ℕ)) → length (filter_map listed_card lines) ≤ length lines
 kept_few [] = arith_zero

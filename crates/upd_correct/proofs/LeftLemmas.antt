@@ -1,10 +1,8 @@
 -- Cards and decks that are left by a run.
-use Rattle.std.proofs.Common.{◌≡◌, ℕ, ◌-◌, ◌<◌, ◌≤◌, List, [], ◌∷◌, length, take, drop, get_or, sym, ap, ◌∙◌, subst, arith}
+use Rattle.upd_correct.proofs.Common.{◌≡◌, ℕ, ◌-◌, ◌<◌, ◌≤◌, List, [], ◌∷◌, length, take, drop, get_or, sym, ap, ◌∙◌, subst, arith, Target, CardView, AreLeft}
+use Rattle.upd_correct.proofs.Common.{Empty}
 use Rattle.std.proofs.lemmas.List.{drop_all}
-use Rattle.upd_core.specs.declared.target.Target.{Target}
-use Rattle.upd_core.specs.Library.{CardView}
 use Rattle.upd_correct.proofs.ListLemmas.{rest_of}
-use Rattle.upd_correct.specs.Checked.{AreLeft, Empty}
 
 -- at the end of both lists
 pub none_left : (live : List Target) (d z : ℕ) (rest news : List CardView) (i : ℕ) → length rest ≡ 0 → length news ≤ i → AreLeft live d z rest (drop i news)

@@ -10,6 +10,7 @@ pub mod SameLemmas
 pub mod LeftLemmas
 pub mod TextLemmas
 pub mod CheckedLemmas
+pub mod Common
 pub mod ListedLemmas
 pub mod TellLemmas
 mod CountLemmas

@@ -1,8 +1,6 @@
 -- Lists and their parts.
-use Rattle.std.proofs.Common.{◌≡◌, ℕ, zero, suc, ◌+◌, ◌-◌, ◌<◌, List, [], ◌∷◌, ◌++◌, map, length, take, drop, get_or, refl, sym, ap, ◌∙◌, arith}
-use Rattle.std.proofs.Common.{append_assoc, length-drop}
-use Rattle.std.proofs.lemmas.List.{map-append, take_all, take_more}
-use Rattle.std.specs.List.{AllByRecursion, Contains}
+use Rattle.upd_correct.proofs.Common.{◌≡◌, ℕ, zero, suc, ◌+◌, ◌-◌, ◌<◌, List, [], ◌∷◌, ◌++◌, map, length, take, drop, get_or, refl, sym, ap, ◌∙◌, arith}
+use Rattle.upd_correct.proofs.Common.{append_assoc, length-drop, map-append, take_all, take_more, AllByRecursion, Contains}
 use Rattle.upd_core.proofs.ApartLemmas.{all_by_index, at_contained}
 
 pub all_contained : {A : Type 0} (xs : List A) → AllByRecursion (Contains xs) xs

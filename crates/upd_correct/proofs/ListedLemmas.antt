@@ -1,25 +1,22 @@
 -- The lines of a deck's listing are read as they are written.
-use Rattle.std.proofs.Common.{◌≡◌, ℕ, suc, ◌+◌, ◌^◌, ◌<◌, Bool, true, false, cond, not, ◌==◌, List, [], ◌∷◌, ◌++◌, map, length}
-use Rattle.std.proofs.Common.{decimal, is_some, Option, Some, None, refl, sym, ap, ◌∙◌, subst, arith, append_assoc, append-nil}
+use Rattle.upd_correct.proofs.Common.{◌≡◌, ℕ, suc, ◌+◌, ◌<◌, Bool, true, false, cond, not, List, [], ◌∷◌, ◌++◌, map, length, is_some, Option, Some, None}
+use Rattle.upd_correct.proofs.Common.{refl, sym, ap, ◌∙◌, subst, arith, append_assoc, append-nil, nat_tests, filter_map, flat_map, list_all, list_any}
+use Rattle.upd_correct.proofs.Common.{AllByRecursion, option_map, option_map_or, codes, bytes_eq, IsReference, card_text, is_name, yank_name, index_from}
+use Rattle.upd_correct.proofs.Common.{is_allowed, is_feed, lines_in, all_append, ListedView, is_other, listed_card, listed_name}
+use Rattle.std.proofs.Common.{◌^◌, ◌==◌, decimal}
 use Rattle.std.proofs.Math.Seq.{take-append_seam, drop-append-add}
 use Rattle.std.proofs.lemmas.Bool.{and_parts, eqb-true, false≢true}
-use Rattle.std.proofs.lemmas.Bool.Decides.{nat_tests}
 use Rattle.std.proofs.lemmas.Fmt.{digits_decimal}
-use Rattle.std.specs.List.{after_first, before_first, filter_map, flat_map, list_all, list_any, position_or_len, AllByRecursion}
-use Rattle.std.specs.Option.{option_and_then, option_map, option_map_or}
-use Rattle.std.specs.Prelude.{codes, if◌then◌else◌}
-use Rattle.std.specs.Str.{bytes_eq}
+use Rattle.std.specs.List.{after_first, before_first, position_or_len}
+use Rattle.std.specs.Option.{option_and_then}
+use Rattle.std.specs.Prelude.{if◌then◌else◌}
 use Rattle.upd_text.specs.Lines.{is_blank}
-use Rattle.upd_text.specs.Names.{IsReference, card_of, card_text, is_digit, is_name, is_name_byte, yank_name}
+use Rattle.upd_text.specs.Names.{card_of, is_digit, is_name_byte}
 use Rattle.upd_text.proofs.CardRefLemmas.{card_of-card_text, name_bytes, numeral_model}
 use Rattle.upd_text.specs.declared.card_ref.CardRef.{CardRef}
-use Rattle.upd_core.specs.First.{index_from}
-use Rattle.upd_deck.specs.Reading.{is_allowed, is_feed}
 use Rattle.upd_compile.specs.Listings.{line_of, word_if}
-use Rattle.upd_correct.specs.EditedText.{lines_in}
 use Rattle.upd_correct.proofs.TextLineLemmas.{HasNoFeed, lines_from_feed}
-use Rattle.upd_laws.proofs.SoundListLemmas.{all_append}
-use Rattle.upd_correct.specs.ListedDeck.{ListedView, is_other, card_in_line, card_in_words, cut_word, deck_name_read, line_text, listed_as, listed_card, listed_name}
+use Rattle.upd_correct.specs.ListedDeck.{card_in_line, card_in_words, cut_word, deck_name_read, line_text, listed_as}
 use Rattle.upd_correct.specs.ListedDeck.{name_before, name_in_line, name_in_words, status_read}
 
 -- ---- cutting at the first byte that passes a test
@@ -31,7 +28,8 @@ NonePass test bytes = AllByRecursion (λ b. test b ≡ false) bytes
 first_place : (test : ℕ → Bool) (front : List ℕ) (b : ℕ) (back : List ℕ) → NonePass test front → test b ≡ true
     → position_or_len test (front ++ b ∷ back) ≡ length front
 first_place test [] b back none is = rw is refl
-first_place test (x ∷ front) b back none is = more (test x) (position_or_len test (front ++ b ∷ back)) (length front) none.0 (first_place test front b back none.1 is)
+first_place test (x ∷ front) b back none is =
+    more (test x) (position_or_len test (front ++ b ∷ back)) (length front) none.0 (first_place test front b back none.1 is)
   where
     more : (here : Bool) (at n : ℕ) → here ≡ false → at ≡ n → cond (not here) (1 + at) 0 ≡ suc n
     more here at n other e = grind (arith, nat_tests)

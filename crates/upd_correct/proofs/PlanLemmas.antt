@@ -1,26 +1,17 @@
 -- Decks without problems give corrections and new decks.
-use Rattle.std.proofs.Common.{◌≡◌, ℕ, ◌+◌, ◌<◌, Bool, true, false, cond, List, [], ◌∷◌, ◌++◌, map, length, take, drop, get_or, slice_get, refl, sym, ap, ◌∙◌, subst, arith}
-use Rattle.std.proofs.Common.{append_assoc, append-nil}
+use Rattle.upd_correct.proofs.Common.{◌≡◌, ℕ, ◌+◌, ◌<◌, Bool, true, false, cond, List, [], ◌∷◌, ◌++◌, map, length, take, drop, get_or, slice_get, refl, sym}
+use Rattle.upd_correct.proofs.Common.{ap, ◌∙◌, subst, arith, append_assoc, append-nil, bytes_eq-Decides, IsTrue, option_map_or, bytes_eq, flat_map, list_any}
+use Rattle.upd_correct.proofs.Common.{AllByRecursion, AllZip, Ident, Target, CardView, LibraryView, cards_of, deck_of, held_named, is_active, live_targets}
+use Rattle.upd_correct.proofs.Common.{all_at, Correction, NewDeck, Segment, new_deck_lines, IsSpelled, RunLine, AreCorrectionsFor, HasNoProblem, deck_problem}
+use Rattle.upd_correct.proofs.Common.{card_line, texts_of, IsScriptOf}
 use Rattle.std.proofs.lemmas.List.Elements.{filter_more}
 use Rattle.std.proofs.lemmas.Option.{same_Some, slice_get_read}
-use Rattle.std.proofs.lemmas.Slice.Eq.{bytes_eq-Decides}
-use Rattle.std.specs.Prelude.{◌||◌, IsTrue, Option, Some, None, is_some}
-use Rattle.std.specs.Option.{option_map_or}
-use Rattle.std.specs.Str.{bytes_eq}
-use Rattle.std.specs.List.{flat_map, list_any, AllByRecursion, AllZip}
-use Rattle.upd_core.specs.declared.ident.Ident.{Ident}
-use Rattle.upd_core.specs.declared.target.Target.{Target}
-use Rattle.upd_core.specs.Library.{CardView, LibraryView, cards_of, deck_of, held_named, is_deck_kind}
-use Rattle.upd_core.specs.Status.{is_active, live_targets}
-use Rattle.upd_core.proofs.ApartLemmas.{all_at}
+use Rattle.std.specs.Prelude.{◌||◌, Option, Some, None, is_some}
+use Rattle.upd_core.specs.Library.{is_deck_kind}
 use Rattle.upd_laws.proofs.SoundListLemmas.{all_each}
-use Rattle.upd_correct.specs.Corrections.{Correction, NewDeck, Segment}
-use Rattle.upd_correct.specs.Corrections.{new_deck_lines}
-use Rattle.upd_correct.specs.RunLines.{IsSpelled, RunLine}
-use Rattle.upd_correct.specs.Plans.{AreCorrectionsFor, IsCorrectionFor, held_decks}
-use Rattle.upd_correct.specs.Problems.{HasNoProblem, deck_problem, first_problem, name_problem}
-use Rattle.upd_correct.specs.EditedText.{card_line, texts_of}
-use Rattle.upd_correct.specs.Scripts.{HasFirst, IsScriptOf}
+use Rattle.upd_correct.specs.Plans.{IsCorrectionFor, held_decks}
+use Rattle.upd_correct.specs.Problems.{first_problem, name_problem}
+use Rattle.upd_correct.specs.Scripts.{HasFirst}
 use Rattle.upd_correct.proofs.TextLineLemmas.{zip_end}
 
 -- ---- what no problem says
@@ -164,7 +155,8 @@ pub no_cards : (live : List Target) (deck : ℕ) (text : List ℕ) (cards : List
 no_cards live deck text [] none e = cc
 no_cards live deck text (c ∷ cards) none e = omega (arith, none)
 
-pub next_correction : (l : LibraryView) (set : List ℕ) (decks : List NewDeck) (i a : ℕ) (d : NewDeck) (c : Correction) (cards : List CardView) (live : List Target)
+pub next_correction : (l : LibraryView) (set : List ℕ) (decks : List NewDeck) (i a : ℕ) (d : NewDeck) (c : Correction) (cards : List CardView)
+    (live : List Target)
     (corrections new : List Correction) → i < length decks → d ≡ get_or decks i d → HasNoProblem l set [] decks
     → AllByRecursion IsSpelled (flat_map new_deck_lines decks) → deck_of d.name l ≡ Some a → c.deck ≡ a → live ≡ live_targets l → cards ≡ cards_of a l
     → (first_problem live a d.first cards ≡ None → AllByRecursion IsSpelled d.lines → IsScriptOf live a cards (texts_of d) c.segments)

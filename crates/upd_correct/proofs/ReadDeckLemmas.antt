@@ -1,24 +1,13 @@
 -- One more line of an edited text: the decks and the refusals that it gives.
-use Rattle.std.proofs.Common.{◌≡◌, ℕ, ◌+◌, false, List, [], ◌∷◌, ◌++◌, map, length, refl, sym, ap, ◌∙◌, subst}
-use Rattle.std.proofs.Common.{append_assoc, append-nil}
-use Rattle.std.proofs.lemmas.List.{map-append}
-use Rattle.std.proofs.lemmas.List.Concat.{flat_map-append}
+use Rattle.upd_correct.proofs.Common.{◌≡◌, ℕ, ◌+◌, false, List, [], ◌∷◌, ◌++◌, map, length, refl, sym, ap, ◌∙◌, subst, append_assoc, append-nil, map-append}
+use Rattle.upd_correct.proofs.Common.{flat_map-append, option_map_or, AllByRecursion, LibraryView, reading, all_append, IsCardLine, NewDeck, first_line}
+use Rattle.upd_correct.proofs.Common.{Refusal, IsReadAs, card_line, HasReading, IsEditedDeck, HasNoProblem, deck_problem, line_problem, AreReadFrom}
+use Rattle.upd_correct.proofs.Common.{head_read, lines_refusals, refusals_at}
 use Rattle.std.specs.Prelude.{Option, Some, None}
-use Rattle.std.specs.Option.{option_map_or}
-use Rattle.std.specs.List.{AllByRecursion}
-use Rattle.upd_core.specs.Library.{LibraryView}
-use Rattle.upd_deck.specs.Reading.{reading}
-use Rattle.upd_laws.proofs.SoundListLemmas.{all_append}
-use Rattle.upd_correct.specs.Corrections.{IsCardLine, NewDeck, first_line}
 use Rattle.upd_correct.specs.declared.refusal.Problem.{Problem}
 use Rattle.upd_correct.specs.declared.refusal.Problem.TheVariants.{NoDeck}
-use Rattle.upd_correct.specs.declared.refusal.Refusal.{Refusal}
-use Rattle.upd_correct.specs.EditedText.{IsReadAs, card_line}
-use Rattle.upd_correct.specs.LineReads.{HasReading}
-use Rattle.upd_correct.specs.Plans.{IsEditedDeck}
-use Rattle.upd_correct.specs.Problems.{HasNoProblem, deck_problem, line_problem, problem_column}
-use Rattle.upd_correct.specs.ReadDecks.{AreReadFrom}
-use Rattle.upd_correct.specs.Refusals.{head_read, line_refusals, lines_refusals, name_begun, names_begun, place_problem, refusals_at}
+use Rattle.upd_correct.specs.Problems.{problem_column}
+use Rattle.upd_correct.specs.Refusals.{line_refusals, name_begun, names_begun, place_problem}
 use Rattle.upd_correct.proofs.PlanLemmas.{no_problem_grown, no_problem_more}
 use Rattle.upd_correct.proofs.TextLineLemmas.{deck_grown, deck_read, line_read}
 

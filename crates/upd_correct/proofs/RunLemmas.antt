@@ -1,11 +1,8 @@
 -- The run of an edit is that of the plan.
-use Rattle.std.proofs.Common.{◌≡◌, ℕ, ◌≤◌, Bool, false, List, length, sym, ◌∙◌, subst}
+use Rattle.upd_correct.proofs.Common.{◌≡◌, ℕ, ◌≤◌, Bool, false, List, length, sym, ◌∙◌, subst, LibraryView, Correction, NewDeck, edit_lines, run_of}
+use Rattle.upd_correct.proofs.Common.{new_decks, is_unchanged}
 use Rattle.upd_text.specs.declared.limits.TheConstants.{MAX_RUN_BYTES, MAX_RUN_LINES}
-use Rattle.upd_core.specs.Library.{LibraryView}
-use Rattle.upd_correct.specs.Corrections.{Correction, NewDeck, edit_lines}
-use Rattle.upd_correct.specs.RunLines.{run_of}
-use Rattle.upd_correct.specs.Plans.{new_decks}
-use Rattle.upd_correct.specs.Runs.{IsRunOf, is_unchanged}
+use Rattle.upd_correct.specs.Runs.{IsRunOf}
 
 -- the corrections and the new decks are those of the plan
 pub nothing_same : (l : LibraryView) (decks : List NewDeck) (corrections of : List Correction) (added : List NewDeck) (b : Bool) → of ≡ corrections

@@ -1,33 +1,25 @@
 -- The listing of a held deck is read, and tells its name and its cards.
-use Rattle.std.proofs.Common.{◌≡◌, ℕ, ◌+◌, ◌-◌, ◌==◌, ◌≤◌, nat_lt, Bool, true, false, List, [], ◌∷◌, ◌++◌, map, length, slice_get}
-use Rattle.std.proofs.Common.{Some, None, unwrap_or, Result, Ok, refl, sym, ap, ◌∙◌, subst, arith}
-use Rattle.std.proofs.lemmas.Bool.Decides.{nat_tests}
-use Rattle.std.proofs.lemmas.List.{length-map}
-use Rattle.std.proofs.lemmas.Slice.Eq.{bytes_eq-Decides}
-use Rattle.std.specs.List.{find, flat_map, list_all, AllByRecursion, Contains}
-use Rattle.std.specs.Option.{option_map, option_map_or}
-use Rattle.std.specs.Prelude.{IsTrue}
-use Rattle.std.specs.Str.{bytes_eq}
+use Rattle.upd_correct.proofs.Common.{◌≡◌, ℕ, ◌+◌, ◌-◌, ◌≤◌, nat_lt, Bool, true, false, List, [], ◌∷◌, ◌++◌, map, length, slice_get, Some, None, refl, sym}
+use Rattle.upd_correct.proofs.Common.{ap, ◌∙◌, subst, arith, nat_tests, length-map, bytes_eq-Decides, flat_map, list_all, AllByRecursion, Contains}
+use Rattle.upd_correct.proofs.Common.{option_map, option_map_or, IsTrue, bytes_eq, MAX_CARDS, IsReference, is_name, yank_name, Ident, CardView, DeckView}
+use Rattle.upd_correct.proofs.Common.{LibraryView, cards_of, deck_of, held_named, is_deck, ref_of, is_active, live_targets, all_at, all_back, all_front}
+use Rattle.upd_correct.proofs.Common.{is_allowed, all_weaker, lines_in, listed_card}
+use Rattle.std.proofs.Common.{◌==◌, unwrap_or, Result, Ok}
+use Rattle.std.specs.List.{find}
 use Rattle.upd_text.specs.declared.fault.Fault.{Fault}
 use Rattle.upd_text.specs.declared.fault.FaultKind.TheVariants.{DeckUnknown}
-use Rattle.upd_text.specs.declared.limits.TheConstants.{MAX_CARDS}
-use Rattle.upd_text.specs.Names.{IsReference, is_name, yank_name}
 use Rattle.upd_text.specs.Outcome.{◌>>=◌, at_line, need}
-use Rattle.upd_core.specs.declared.ident.Ident.{Ident}
-use Rattle.upd_core.specs.Library.{CardView, DeckView, LibraryView, all_decks, cards_of, deck_of, held_named, is_common, is_deck, name_of, ref_of}
+use Rattle.upd_core.specs.Library.{all_decks, is_common, name_of}
 use Rattle.upd_core.specs.Sound.{IsSound, all_cards}
-use Rattle.upd_core.specs.Status.{is_active, live_targets}
-use Rattle.upd_core.proofs.ApartLemmas.{all_at, all_back, all_front, all_of_contained}
+use Rattle.upd_core.proofs.ApartLemmas.{all_of_contained}
 use Rattle.upd_core.proofs.FoundLemmas.{IsAt, card_held, held_at, named_at}
-use Rattle.upd_deck.specs.Reading.{is_allowed}
 use Rattle.upd_compile.specs.Listings.{deck_heading, deck_line, deck_listing, heading, listed_deck}
 use Rattle.upd_laws.specs.ReadRuns.{HasLineTexts, IsOfRun}
-use Rattle.upd_laws.proofs.SoundListLemmas.{all_weaker}
-use Rattle.upd_correct.specs.EditedText.{lines_in}
 use Rattle.upd_correct.proofs.ListLemmas.{all_contained}
 use Rattle.upd_correct.proofs.PlanLemmas.{IsDeckIdent, deck_ident}
-use Rattle.upd_correct.specs.ListedDeck.{TellDeck, as_listed, bad_card, listed_card}
-use Rattle.upd_correct.proofs.ListedLemmas.{IsFedLine, IsHead, all_read, card_line_fed, card_line_read, common_head, deck_head, fed_first, fed_lines, none_other}
+use Rattle.upd_correct.specs.ListedDeck.{TellDeck, as_listed, bad_card}
+use Rattle.upd_correct.proofs.ListedLemmas.{IsFedLine, IsHead, all_read, card_line_fed, card_line_read, common_head, deck_head, fed_first, fed_lines}
+use Rattle.upd_correct.proofs.ListedLemmas.{none_other}
 
 -- ---- the cards
 

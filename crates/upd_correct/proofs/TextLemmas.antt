@@ -1,11 +1,8 @@
 -- The texts of decks, and the first line of a run.
-use Rattle.std.proofs.Common.{◌≡◌, ℕ, ◌-◌, ◌<◌, List, [], ◌∷◌, map, length, take, drop, get_or, sym, ap, ◌∙◌, arith}
-use Rattle.std.specs.Prelude.{IsTrue, ◌==◌, Result, Ok, Err, IfOk}
-use Rattle.std.proofs.lemmas.Bool.Decides.{Decides-eqb}
+use Rattle.upd_correct.proofs.Common.{◌≡◌, ℕ, ◌-◌, ◌<◌, List, [], ◌∷◌, map, length, take, drop, get_or, sym, ap, ◌∙◌, arith, IsTrue, ◌==◌, Result, Ok, Err}
+use Rattle.upd_correct.proofs.Common.{Decides-eqb, NewDeck, RunLine, card_line, texts_of}
+use Rattle.std.specs.Prelude.{IfOk}
 use Rattle.std.proofs.lemmas.Simd.{map-map}
-use Rattle.upd_correct.specs.Corrections.{NewDeck}
-use Rattle.upd_correct.specs.RunLines.{RunLine}
-use Rattle.upd_correct.specs.EditedText.{card_line, texts_of}
 use Rattle.upd_correct.proofs.LeftLemmas.{first_and_more}
 
 -- the first text is that of the deck's first line, and the others are those of its further lines
@@ -13,7 +10,8 @@ pub texts_are : {X : Type 0} (now : X → List ℕ) (d : NewDeck) (texts lines :
     → map now (take (length texts - 1) (drop 1 texts)) ≡ map now lines → map (λ t. card_line (now t)) lines ≡ d.lines → map now texts ≡ texts_of d
 texts_are now d texts lines x some first rest view =
     ap (map now) (first_and_more texts x some) ∙ ap (λ t. t ∷ map now (take (length texts - 1) (drop 1 texts))) first
-    ∙ ap (λ ts. d.first ∷ ts) (rest ∙ sym (map-map (λ (line : RunLine). line.text) (λ t. card_line (now t)) lines) ∙ ap (map (λ (line : RunLine). line.text)) view)
+    ∙ ap (λ ts. d.first ∷ ts) (rest ∙ sym (map-map (λ (line : RunLine). line.text) (λ t. card_line (now t)) lines)
+    ∙ ap (map (λ (line : RunLine). line.text)) view)
 
 -- the other way
 pub texts_split : {X : Type 0} (now : X → List ℕ) (d : NewDeck) (texts lines : List X) (x : X) → 0 < length texts

@@ -1,25 +1,18 @@
 -- The lines of an edited text, and how they are read.
-use Rattle.std.proofs.Common.{◌≡◌, ℕ, zero, suc, ◌+◌, ◌<◌, Bool, true, false, List, [], ◌∷◌, ◌++◌, map, length, take, drop, get_or, refl, sym, ap, ◌∙◌, subst, arith}
-use Rattle.std.proofs.Common.{append-nil, append_assoc}
-use Rattle.std.proofs.lemmas.List.{take_more}
-use Rattle.std.proofs.lemmas.List.Concat.{flat_map-append}
-use Rattle.std.specs.Prelude.{None, Ok}
-use Rattle.std.specs.List.{flat_map, AllByRecursion, AllZip}
+use Rattle.upd_correct.proofs.Common.{◌≡◌, ℕ, zero, suc, ◌+◌, ◌<◌, Bool, true, false, List, [], ◌∷◌, ◌++◌, map, length, take, drop, get_or, refl, sym, ap}
+use Rattle.upd_correct.proofs.Common.{◌∙◌, subst, arith, append-nil, append_assoc, take_more, flat_map-append, Ok, flat_map, AllByRecursion, AllZip, LineView}
+use Rattle.upd_correct.proofs.Common.{is_feed, reading, all_back, all_front, all_append, IsCardItem, IsCardLine, NewDeck, first_line, new_deck_lines}
+use Rattle.upd_correct.proofs.Common.{IsSpelled, RunLine, IsReadAs, card_line, lines_in, HasReading, IsEditedDeck, line_problem, head_read}
+use Rattle.std.specs.Prelude.{None}
 use Rattle.upd_text.specs.Lines.{called, is_call}
-use Rattle.upd_deck.specs.Items.{ItemView, LineView, Text, Call}
+use Rattle.upd_deck.specs.Items.{ItemView, Text, Call}
 use Rattle.upd_deck.specs.Grammar.{AreLines, IsLine, IsTextOf, Trimmed, Comment, Line, NoMore, LastLine, NextLine, Says}
-use Rattle.upd_deck.specs.Reading.{is_feed, reading}
 use Rattle.upd_deck.proofs.CallLaws.{call_read, call_said}
 use Rattle.upd_deck.proofs.GrammarRuns.{run_back}
-use Rattle.upd_core.proofs.ApartLemmas.{all_back, all_front}
-use Rattle.upd_laws.proofs.SoundListLemmas.{all_append}
-use Rattle.upd_correct.specs.Corrections.{IsCardItem, IsCardLine, NewDeck, first_line, new_deck_lines}
-use Rattle.upd_correct.specs.RunLines.{IsSpelled, RunLine, written}
-use Rattle.upd_correct.specs.EditedText.{IsReadAs, begun_with, card_line, lines_in}
-use Rattle.upd_correct.specs.LineReads.{HasReading}
-use Rattle.upd_correct.specs.Plans.{IsEditedDeck}
-use Rattle.upd_correct.specs.Problems.{item_problem, line_problem}
-use Rattle.upd_correct.specs.Refusals.{head_by_item, head_read}
+use Rattle.upd_correct.specs.RunLines.{written}
+use Rattle.upd_correct.specs.EditedText.{begun_with}
+use Rattle.upd_correct.specs.Problems.{item_problem}
+use Rattle.upd_correct.specs.Refusals.{head_by_item}
 
 -- ---- lines
 
@@ -94,10 +87,6 @@ card_line_is text = go (is_call text) refl
     go : (b : Bool) → is_call text ≡ b → IsCardLine (card_line text)
     go true e = rw e tt
     go false e = rw e tt
-
-pub card_lines_are : (texts : List (List ℕ)) → AllByRecursion IsCardLine (map card_line texts)
-card_lines_are [] = tt
-card_lines_are (text ∷ texts) = (card_line_is text, card_lines_are texts)
 
 said_text : (text : List ℕ) → Says text Text → card_line text ≡ record { text = text; item = Text }
 said_text text says = go (is_call text) refl

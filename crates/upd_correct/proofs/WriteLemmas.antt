@@ -1,14 +1,9 @@
 -- Lines are written one after another.
-use Rattle.std.proofs.Common.{◌≡◌, ℕ, ◌+◌, ◌<◌, false, List, [], ◌∷◌, ◌++◌, map, length, take, get_or, refl, sym, ap, ◌∙◌, subst, arith, append_assoc}
+use Rattle.upd_correct.proofs.Common.{◌≡◌, ℕ, ◌+◌, ◌<◌, false, List, [], ◌∷◌, ◌++◌, map, length, take, get_or, refl, sym, ap, ◌∙◌, subst, arith, append_assoc}
+use Rattle.upd_correct.proofs.Common.{map-append, take_more, flat_map-append, ◌==◌, Ident, CardView, ref_of, RunLine, insert_line, run_of, Writes}
 use Rattle.std.proofs.Common.{length-append}
-use Rattle.std.proofs.lemmas.List.{map-append, take_more}
-use Rattle.std.proofs.lemmas.List.Concat.{flat_map-append}
-use Rattle.std.specs.Prelude.{◌==◌}
-use Rattle.upd_core.specs.declared.ident.Ident.{Ident}
-use Rattle.upd_core.specs.Library.{CardView, ref_of}
 use Rattle.upd_correct.specs.Corrections.{insertion}
-use Rattle.upd_correct.specs.RunLines.{RunLine, insert_line, run_of}
-use Rattle.upd_correct.specs.Writing.{RunView, Writes}
+use Rattle.upd_correct.specs.Writing.{RunView}
 
 pub writes_then : (a b c : RunView) (xs ys : List RunLine) → Writes a b xs → Writes b c ys → Writes a c (xs ++ ys)
 writes_then a b c xs ys first second = record {

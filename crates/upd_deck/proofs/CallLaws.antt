@@ -1,15 +1,9 @@
 -- A line that is read as a call is one that a compile file follows.
-use Rattle.std.proofs.Common.{◌≡◌, ◌↔◌, ℕ, zero, suc, Bool, true, ◌||◌, IsTrue, List, [], ◌∷◌, codes, refl, sym, ap, ◌∙◌, subst, ⊎_elim, Some, arith}
-use Rattle.std.proofs.lemmas.Bool.{and_parts, and_from, or_cases}
-use Rattle.std.proofs.lemmas.Slice.Eq.{bytes_eq-Decides}
-use Rattle.std.specs.List.{Contains, list_all}
-use Rattle.std.specs.Str.{bytes_eq}
-use Rattle.upd_text.specs.Lines.{is_starred, word, is_call, called}
-use Rattle.upd_deck.specs.declared.word.Word.{Word}
+use Rattle.upd_deck.proofs.Common.{◌≡◌, ◌↔◌, ℕ, zero, suc, Bool, true, ◌||◌, IsTrue, List, [], ◌∷◌, codes, refl, sym, ap, ◌∙◌, subst, ⊎_elim, Some, arith}
+use Rattle.upd_deck.proofs.Common.{and_parts, and_from, or_cases, bytes_eq-Decides, Contains, list_all, bytes_eq, is_starred, word, Word, ItemView, Call}
+use Rattle.upd_deck.proofs.Common.{Takes, TakesCall, Says, Directive, Other, Spelling, spelled, spellings, meaning}
+use Rattle.upd_text.specs.Lines.{is_call, called}
 use Rattle.upd_deck.specs.declared.word.Word.TheVariants as words
-use Rattle.upd_deck.specs.Items.{ItemView, Call}
-use Rattle.upd_deck.specs.Grammar.{Takes, TakesCall, Says, Directive, Other}
-use Rattle.upd_deck.specs.Reading.{Spelling, spelled, spellings, meaning}
 use Rattle.upd_deck.proofs.GrammarFields.{star_line_read}
 use Rattle.upd_deck.proofs.GrammarSays.{means_read, means_back, word_back, star_starred}
 

@@ -1,9 +1,6 @@
 -- The lines of a run.
-use Rattle.std.proofs.Common.{◌≡◌, ℕ, ◌+◌, ◌-◌, ◌<◌, List, [], ◌∷◌, length, refl, arith}
-use Rattle.std.specs.List.{slice_split}
-use Rattle.std.specs.Str.Lines.{strip_carriage_return}
+use Rattle.upd_deck.proofs.Common.{◌≡◌, ℕ, ◌+◌, ◌-◌, ◌<◌, List, [], ◌∷◌, length, refl, arith, slice_split, strip_carriage_return, cut_from, is_feed}
 use Rattle.std.proofs.lemmas.List.Splits.{length-slice_split}
-use Rattle.upd_deck.specs.Reading.{cut_from, is_feed}
 
 -- a piece with others after it is a line
 cut_from-more : (number start : ℕ) (piece : List ℕ) (pieces : List (List ℕ)) → 0 < length pieces

@@ -1,14 +1,10 @@
 -- The fields of a line are those that its spelling has, and a line without an empty field has a spelling.
-use Rattle.std.proofs.Common.{◌≡◌, ℕ, zero, suc, ◌<◌, Bool, true, false, cond, eqb, not, IsTrue, List, [], ◌∷◌, ◌++◌, length, drop, length-append, refl, sym}
-use Rattle.std.proofs.Common.{ap, ◌∙◌, subst, append_assoc, append-nil, arith}
-use Rattle.std.proofs.lemmas.Bool.{cond_both, not-true, cond-false, ne_eqb, eqb-true, eqb-false, false≢true}
-use Rattle.std.proofs.lemmas.List.{length-replicate}
-use Rattle.std.proofs.lemmas.List.Splits.{join_with_byte-slice_split}
-use Rattle.std.specs.List.{AllByRecursion, slice_split, onto_first, join_with_byte}
-use Rattle.upd_text.specs.Lines.{is_blank, is_comma, ends_word, up_to, from_first, after_blanks, after_comma, is_starred, word, field, remark, fields_of}
-use Rattle.upd_text.specs.Lines.{fields}
-use Rattle.upd_deck.specs.Grammar.{blanks, IsInk, IsField, Comma, IsLead, Blanks, Separator, BeginsInked, IsRemark, Nothing, Remark, AreFields, Last, Next}
-use Rattle.upd_deck.specs.Grammar.{IsStarLine, Bare, Fields}
+use Rattle.upd_deck.proofs.Common.{◌≡◌, ℕ, zero, suc, ◌<◌, Bool, true, false, cond, eqb, not, IsTrue, List, [], ◌∷◌, ◌++◌, length, drop, length-append, refl}
+use Rattle.upd_deck.proofs.Common.{sym, ap, ◌∙◌, subst, append_assoc, append-nil, arith, cond_both, not-true, cond-false, ne_eqb, eqb-true, eqb-false}
+use Rattle.upd_deck.proofs.Common.{false≢true, length-replicate, join_with_byte-slice_split, AllByRecursion, slice_split, onto_first, join_with_byte}
+use Rattle.upd_deck.proofs.Common.{is_blank, is_comma, ends_word, up_to, from_first, after_blanks, after_comma, is_starred, word, field, remark, fields_of}
+use Rattle.upd_deck.proofs.Common.{fields, blanks, IsInk, IsField, Comma, IsLead, Blanks, Separator, BeginsInked, IsStarLine, Bare, Fields}
+use Rattle.upd_deck.specs.Grammar.{IsRemark, Nothing, Remark, AreFields, Last, Next}
 use Rattle.upd_deck.proofs.GrammarParts.{all_weaker, Begins, up_to_end, from_end, both_parts, up_to_all, from_begins, not_blank, ink_no_comma, ink_no_end}
 use Rattle.upd_deck.proofs.GrammarParts.{no_end_ink, blanks_gone, blanks_only, ink_stays, lead_gone, HasNoComma, blanks_no_comma, field_no_comma}
 use Rattle.upd_deck.proofs.GrammarParts.{split_at_comma, split_onto, first_piece, begins_field, field_is, remark_is, begins_blanks, begins_more, fields_more}

@@ -1,25 +1,15 @@
 -- A word takes fields exactly when the grammar spells them.
-use Rattle.std.proofs.Common.{◌≡◌, ℕ, ◌<◌, Bool, true, false, cond, eqb, leb, not, ◌&&◌, ◌||◌, List, [], ◌∷◌, ◌++◌, length, length-append, refl, sym, ap, ◌∙◌}
-use Rattle.std.proofs.Common.{subst, ⊎_elim, codes, Result, Ok, arith}
-use Rattle.std.proofs.lemmas.Bool.{and_parts, and_from, or_cases, ne_eqb, eqb-true, leb-true, le-leb, false≢true, not_from_false}
-use Rattle.std.proofs.lemmas.Slice.Eq.{bytes_eq-Decides}
-use Rattle.std.specs.List.{AllByRecursion, AllZip, list_any}
-use Rattle.std.specs.Str.{bytes_eq}
-use Rattle.upd_text.specs.declared.card_ref.CardRef.{CardRef}
-use Rattle.upd_text.specs.declared.fault.FaultKind.{FaultKind}
-use Rattle.upd_text.specs.Names.{is_name}
-use Rattle.upd_text.specs.Outcome.{◌>>=◌}
-use Rattle.upd_deck.specs.declared.item.NameRange.{NameRange}
-use Rattle.upd_deck.specs.declared.item.IdentIn.{IdentIn}
-use Rattle.upd_deck.specs.declared.word.Word.{Word}
+use Rattle.upd_deck.proofs.Common.{◌≡◌, ℕ, ◌<◌, Bool, true, false, cond, eqb, leb, not, ◌&&◌, ◌||◌, List, [], ◌∷◌, ◌++◌, length, length-append, refl, sym, ap}
+use Rattle.upd_deck.proofs.Common.{◌∙◌, subst, ⊎_elim, codes, Result, Ok, arith, and_parts, and_from, or_cases, ne_eqb, eqb-true, leb-true, le-leb}
+use Rattle.upd_deck.proofs.Common.{false≢true, not_from_false, bytes_eq-Decides, AllByRecursion, AllZip, list_any, bytes_eq, CardRef, FaultKind, is_name}
+use Rattle.upd_deck.proofs.Common.{◌>>=◌, NameRange, IdentIn, Word, ItemView, Call, Ident, Deck, CommonDeck, Insert, Before, Delete, Restore, Yank, SelYank}
+use Rattle.upd_deck.proofs.Common.{YankDeck, Purge, PurgeFrom, SelPurge, PurDeck, Compile, IsName, IsCard, Card, IsRange, Two, Lone, IsPair, Pair, Takes}
+use Rattle.upd_deck.proofs.Common.{TakesCall, TakesIdent, TakesDeck, TakesCommon, TakesMarked, TakesInsert, TakesBefore, TakesDelete, TakesDeletes}
+use Rattle.upd_deck.proofs.Common.{TakesRestore, TakesRestores, TakesYank, TakesSelYank, TakesYankDeck, TakesPurge, TakesPurgeFrom, TakesSelPurge}
+use Rattle.upd_deck.proofs.Common.{TakesPurDeck, TakesCompile, first_field, last_of_two, are_its_fields, name_in, card_ref_in, ident_in, range_in, each_in}
+use Rattle.upd_deck.proofs.Common.{is_from_name, item_with}
 use Rattle.upd_deck.specs.declared.word.Word.TheVariants as words
-use Rattle.upd_deck.specs.Items.{ItemView, Call, Ident, Deck, CommonDeck, Insert, Before, Delete, Restore, Yank, SelYank, YankDeck, Purge, PurgeFrom, SelPurge}
-use Rattle.upd_deck.specs.Items.{PurDeck, Compile}
-use Rattle.upd_deck.specs.Grammar.{IsName, IsCard, Card, IsRange, Two, Lone, IsPair, Pair, Takes, TakesCall, TakesIdent, TakesDeck, TakesCommon, TakesMarked}
-use Rattle.upd_deck.specs.Grammar.{TakesInsert, TakesBefore, TakesDelete, TakesDeletes, TakesRestore, TakesRestores, TakesYank, TakesSelYank, TakesYankDeck}
-use Rattle.upd_deck.specs.Grammar.{TakesPurge, TakesPurgeFrom, TakesSelPurge, TakesPurDeck, TakesCompile}
-use Rattle.upd_deck.specs.Reading.{first_field, last_of_two, are_its_fields, name_in, card_ref_in, ident_in, range_in, each_in, is_from_name, two_cards_in}
-use Rattle.upd_deck.specs.Reading.{item_with}
+use Rattle.upd_deck.specs.Reading.{two_cards_in}
 use Rattle.upd_deck.proofs.GrammarNames.{done, step_back, ok_same, name_parts, name_read, name_back, ident_read, ident_back, range_read, range_back, card_read}
 use Rattle.upd_deck.proofs.GrammarNames.{card_back, each_read, each_back}
 

@@ -1,20 +1,15 @@
 -- A line is read as its text, and has the item of that text.
-use Rattle.std.proofs.Common.{◌≡◌, ℕ, zero, suc, ◌+◌, ◌-◌, ◌<◌, ◌≤◌, Bool, true, false, cond, eqb, ltb, leb, not, ◌&&◌, inl, inr, ⊎_elim, List, [], ◌∷◌, ◌++◌}
-use Rattle.std.proofs.Common.{length, take, get_or, length-append, refl, sym, ap, ◌∙◌, subst, Result, Ok, arith}
-use Rattle.std.proofs.Math.Seq.{take-append_seam}
-use Rattle.std.proofs.lemmas.Bool.{and_right, or_left, or_right, eq-eqb, and_parts, and_from, or_cases, ne_eqb, eqb-true, eqb-false, le-leb, leb-true, le-ltb}
-use Rattle.std.proofs.lemmas.Bool.{ltb-false, false≢true, not-false, false_from_ne_true, both_ways}
-use Rattle.std.proofs.lemmas.List.{length-replicate, get_or-append_right, get_or-replicate, take_more, take_all, get_or_append_left}
+use Rattle.upd_deck.proofs.Common.{◌≡◌, ℕ, zero, suc, ◌+◌, ◌-◌, ◌<◌, ◌≤◌, Bool, true, false, cond, eqb, ltb, leb, not, ◌&&◌, inl, inr, ⊎_elim, List, [], ◌∷◌}
+use Rattle.upd_deck.proofs.Common.{◌++◌, length, take, get_or, length-append, refl, sym, ap, ◌∙◌, subst, Result, Ok, arith, take-append_seam, or_left}
+use Rattle.upd_deck.proofs.Common.{or_right, and_parts, and_from, or_cases, ne_eqb, eqb-true, eqb-false, le-leb, leb-true, le-ltb, ltb-false, false≢true}
+use Rattle.upd_deck.proofs.Common.{not-false, false_from_ne_true, both_ways, length-replicate, take_more, take_all, AllByRecursion, list_all, suffix_len}
+use Rattle.upd_deck.proofs.Common.{FaultKind, MAX_RUN_LINES, MAX_LINE_BYTES, is_blank, is_comment, ◌>>=◌, refuse_if, LineView, line_view, blanks, IsAllowed}
+use Rattle.upd_deck.proofs.Common.{IsTextOf, Trimmed, IsLine, Comment, Line, item_of, trimmed, is_allowed, text_of, CutLine, said}
+use Rattle.std.proofs.lemmas.Bool.{and_right, eq-eqb}
+use Rattle.std.proofs.lemmas.List.{get_or-append_right, get_or-replicate, get_or_append_left}
 use Rattle.std.proofs.lemmas.List.Sums.{suffix_len_is}
-use Rattle.std.specs.List.{AllByRecursion, list_all, suffix_len}
-use Rattle.upd_text.specs.declared.fault.FaultKind.{FaultKind}
 use Rattle.upd_text.specs.declared.fault.FaultKind.TheVariants as fault
-use Rattle.upd_text.specs.declared.limits.TheConstants.{MAX_RUN_LINES, MAX_LINE_BYTES}
-use Rattle.upd_text.specs.Lines.{is_blank, is_comment}
-use Rattle.upd_text.specs.Outcome.{◌>>=◌, refuse_if}
-use Rattle.upd_deck.specs.Items.{LineView, line_view}
-use Rattle.upd_deck.specs.Grammar.{blanks, IsAllowed, EndsInked, IsTextOf, Trimmed, IsComment, Slashed, IsLine, Comment, Line}
-use Rattle.upd_deck.specs.Reading.{item_of, trimmed, is_allowed, text_of, CutLine, said}
+use Rattle.upd_deck.specs.Grammar.{EndsInked, IsComment, Slashed}
 use Rattle.upd_deck.proofs.GrammarParts.{all_weaker, all_append}
 use Rattle.upd_deck.proofs.GrammarNames.{done, step_back, ok_same, all_of, all_to}
 use Rattle.upd_deck.proofs.GrammarSays.{refuse_back, refuse_read, says_read, says_back}

@@ -1,25 +1,20 @@
 -- Names, ranges, pairs and card references are read exactly when the grammar spells them.
-use Rattle.std.proofs.Common.{◌≡◌, ℕ, zero, suc, ◌+◌, ◌^◌, ◌<◌, Bool, true, false, cond, eqb, leb, not, ◌&&◌, ◌||◌, List, [], ◌∷◌, ◌++◌, length, refl, sym, ap}
-use Rattle.std.proofs.Common.{◌∙◌, subst, get_or, Some, None, Result, Ok, Err, arith, rules}
-use Rattle.std.proofs.Math.Seq.{take-append_seam, drop-append-add}
-use Rattle.std.proofs.lemmas.Bool.{or_right, or_parts, and_parts, and_from, not_from_false, not-true, ne_eqb, eqb-true, eqb-false, leb-true, le-leb, false≢true}
+use Rattle.upd_deck.proofs.Common.{◌≡◌, ℕ, zero, suc, ◌+◌, ◌<◌, Bool, true, false, cond, eqb, leb, not, ◌&&◌, ◌||◌, List, [], ◌∷◌, ◌++◌, length, refl, sym}
+use Rattle.upd_deck.proofs.Common.{ap, ◌∙◌, subst, get_or, Some, None, Result, Ok, Err, arith, take-append_seam, or_right, or_parts, and_parts, and_from}
+use Rattle.upd_deck.proofs.Common.{not_from_false, not-true, ne_eqb, eqb-true, eqb-false, leb-true, le-leb, false≢true, AllByRecursion, AllZip, list_any}
+use Rattle.upd_deck.proofs.Common.{list_all, before_first, after_first, bytes_eq, CardRef, FaultKind, is_name, is_point, ◌>>=◌, need, NameRange, IdentIn}
+use Rattle.upd_deck.proofs.Common.{IsName, IsCard, Card, IsRange, Two, Lone, IsPair, Pair, name_in, card_ref_in, names_in, ident_in, range_in, one_in, each_in}
+use Rattle.std.proofs.Common.{◌^◌, rules}
+use Rattle.std.proofs.Math.Seq.{drop-append-add}
 use Rattle.std.proofs.lemmas.Fmt.{decimal_digit, decimal_nonempty, length-decimal-le, first_decimal, digits_decimal, digits_value-decimal, decimal-digits_value}
 use Rattle.std.proofs.lemmas.List.{drop_all}
 use Rattle.std.proofs.lemmas.Str.Parse.{digits_value_short}
 use Rattle.std.specs.Fmt.{decimal}
-use Rattle.std.specs.List.{AllByRecursion, AllZip, list_any, list_all, prefix_len, before_first, after_first}
-use Rattle.std.specs.Str.{bytes_eq}
-use Rattle.upd_text.specs.declared.card_ref.CardRef.{CardRef}
-use Rattle.upd_text.specs.declared.fault.FaultKind.{FaultKind}
+use Rattle.std.specs.List.{prefix_len}
 use Rattle.upd_text.specs.declared.fault.FaultKind.TheVariants as fault
-use Rattle.upd_text.specs.Names.{is_between, is_digit, is_name_byte, is_name, is_card_number, number_behind, is_point, card_text}
-use Rattle.upd_text.specs.Outcome.{◌>>=◌, need}
+use Rattle.upd_text.specs.Names.{is_between, is_digit, is_name_byte, is_card_number, number_behind, card_text}
 use Rattle.upd_text.proofs.CardRefLemmas.{numeral_model}
-use Rattle.upd_deck.specs.declared.item.NameRange.{NameRange}
-use Rattle.upd_deck.specs.declared.item.IdentIn.{IdentIn}
-use Rattle.upd_deck.specs.Grammar.{IsName, IsCard, Card, IsRange, Two, Lone, IsPair, Pair}
 use Rattle.upd_deck.proofs.GrammarParts.{all_weaker}
-use Rattle.upd_deck.specs.Reading.{name_in, card_ref_in, names_in, ident_in, range_in, one_in, each_in}
 
 -- ---- results in steps
 

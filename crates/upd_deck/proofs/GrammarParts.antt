@@ -1,10 +1,8 @@
 -- The parts of a line: the bytes before a byte and from it on, ink and blanks, and pieces between commas.
-use Rattle.std.proofs.Common.{◌≡◌, ℕ, zero, suc, ◌<◌, Bool, true, false, cond, eqb, not, List, [], ◌∷◌, ◌++◌, length, refl, sym, ap, ◌∙◌, append_assoc}
-use Rattle.std.proofs.Common.{append-nil, arith}
-use Rattle.std.proofs.lemmas.Bool.{cond_both, or_parts, ne_eqb, eqb-false}
-use Rattle.std.specs.List.{AllByRecursion, slice_split, onto_first}
-use Rattle.upd_text.specs.Lines.{is_blank, is_comma, ends_word, up_to, from_first, after_blanks, after_comma, field, remark, fields_of}
-use Rattle.upd_deck.specs.Grammar.{blanks, IsInk, IsField, Comma, IsLead, Blanks, Separator, BeginsInked}
+use Rattle.upd_deck.proofs.Common.{◌≡◌, ℕ, zero, suc, ◌<◌, Bool, true, false, cond, eqb, not, List, [], ◌∷◌, ◌++◌, length, refl, sym, ap, ◌∙◌, append_assoc}
+use Rattle.upd_deck.proofs.Common.{append-nil, arith, cond_both, or_parts, ne_eqb, eqb-false, AllByRecursion, slice_split, onto_first, is_blank, is_comma}
+use Rattle.upd_deck.proofs.Common.{ends_word, up_to, from_first, after_blanks, after_comma, field, remark, fields_of, blanks, IsInk, IsField, Comma, IsLead}
+use Rattle.upd_deck.proofs.Common.{Blanks, Separator, BeginsInked}
 
 pub all_weaker : {A : Type 0} (P Q : A → Type 0) → ((x : A) → P x → Q x) → (xs : List A) → AllByRecursion P xs → AllByRecursion Q xs
 all_weaker P Q f [] h = tt

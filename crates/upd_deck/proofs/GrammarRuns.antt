@@ -1,21 +1,14 @@
 -- A run is read as lines exactly when the grammar spells these lines.
-use Rattle.std.proofs.Common.{◌≡◌, ◌↔◌, ℕ, zero, suc, ◌+◌, ◌-◌, ◌<◌, ◌≤◌, Bool, true, false, cond, eqb, ltb, ◌⊎◌, inl, inr, ⊎_elim, List, [], ◌∷◌, ◌++◌, length}
-use Rattle.std.proofs.Common.{take, get_or, length-append, append_assoc, append-nil, refl, sym, ap, ◌∙◌, subst, Result, Ok, Err, arith}
-use Rattle.std.proofs.Math.Seq.{take-append_seam, get_or-append_seam}
-use Rattle.std.proofs.lemmas.Bool.{ne_eqb, eqb-true, le-ltb, ltb-false, cond-false}
-use Rattle.std.proofs.lemmas.List.{take_more, take_all}
+use Rattle.upd_deck.proofs.Common.{◌≡◌, ◌↔◌, ℕ, zero, suc, ◌+◌, ◌-◌, ◌<◌, ◌≤◌, Bool, true, false, cond, eqb, ltb, ◌⊎◌, inl, inr, ⊎_elim, List, [], ◌∷◌, ◌++◌}
+use Rattle.upd_deck.proofs.Common.{length, take, get_or, length-append, append_assoc, append-nil, refl, sym, ap, ◌∙◌, subst, Result, Ok, Err, arith}
+use Rattle.upd_deck.proofs.Common.{take-append_seam, ne_eqb, eqb-true, le-ltb, ltb-false, cond-false, take_more, take_all, join_with_byte-slice_split}
+use Rattle.upd_deck.proofs.Common.{AllByRecursion, slice_split, join_with_byte, strip_carriage_return, Fault, FaultKind, MAX_RUN_BYTES, MAX_RUN_LINES, ◌>>=◌}
+use Rattle.upd_deck.proofs.Common.{refuse_if, at_line, each, LineView, blanks, IsAllowed, IsTextOf, Trimmed, IsLine, Comment, Line, Feed, ReturnFeed}
+use Rattle.upd_deck.proofs.Common.{AreLines, NoMore, LastLine, NextLine, CutLine, cut_from, is_feed, cut, said, said_at, reading}
+use Rattle.std.proofs.Math.Seq.{get_or-append_seam}
 use Rattle.std.proofs.lemmas.List.Elements.{All-from_recursion}
-use Rattle.std.proofs.lemmas.List.Splits.{join_with_byte-slice_split}
-use Rattle.std.specs.List.{AllByRecursion, slice_split, join_with_byte}
-use Rattle.std.specs.Str.Lines.{strip_carriage_return}
-use Rattle.upd_text.specs.declared.fault.Fault.{Fault}
-use Rattle.upd_text.specs.declared.fault.FaultKind.{FaultKind}
 use Rattle.upd_text.specs.declared.fault.FaultKind.TheVariants as fault
-use Rattle.upd_text.specs.declared.limits.TheConstants.{MAX_RUN_BYTES, MAX_RUN_LINES}
-use Rattle.upd_text.specs.Outcome.{◌>>=◌, refuse_if, at_line, each}
-use Rattle.upd_deck.specs.Items.{LineView}
-use Rattle.upd_deck.specs.Grammar.{blanks, IsAllowed, IsTextOf, Trimmed, IsLine, Comment, Line, Feed, ReturnFeed, AreLines, NoMore, LastLine, NextLine, Reads}
-use Rattle.upd_deck.specs.Reading.{CutLine, cut_from, is_feed, cut, said, said_at, reading}
+use Rattle.upd_deck.specs.Grammar.{Reads}
 use Rattle.upd_deck.proofs.GrammarParts.{all_weaker, all_append, first_piece}
 use Rattle.upd_deck.proofs.GrammarNames.{step_back, ok_same}
 use Rattle.upd_deck.proofs.GrammarLines.{line_read, line_back, cut_line}

@@ -1,20 +1,14 @@
 -- A text has the item that the grammar spells: a word of the profile with its fields, or a text card.
-use Rattle.std.proofs.Common.{◌≡◌, ℕ, zero, suc, ◌<◌, Bool, true, false, cond, eqb, not, ◌&&◌, inl, inr, ⊎_elim, List, [], ◌∷◌, length, refl, sym, ap, ◌∙◌}
-use Rattle.std.proofs.Common.{subst, Option, Some, None, Result, Ok, arith}
-use Rattle.std.proofs.lemmas.Bool.{or_left, or_right, or_cases, both_ways, false_from_ne_true, and_parts, or_parts, eqb-true, eqb-false, false≢true, not-true}
-use Rattle.std.proofs.lemmas.Bool.{not-false}
-use Rattle.std.proofs.lemmas.Slice.Eq.{bytes_eq-Decides}
-use Rattle.std.specs.List.{AllByRecursion, Contains, find, list_any}
+use Rattle.upd_deck.proofs.Common.{◌≡◌, ℕ, zero, suc, ◌<◌, Bool, true, false, cond, eqb, not, ◌&&◌, inl, inr, ⊎_elim, List, [], ◌∷◌, length, refl, sym, ap}
+use Rattle.upd_deck.proofs.Common.{◌∙◌, subst, Option, Some, None, Result, Ok, arith, or_left, or_right, or_cases, both_ways, false_from_ne_true, and_parts}
+use Rattle.upd_deck.proofs.Common.{or_parts, eqb-true, eqb-false, false≢true, not-true, not-false, bytes_eq-Decides, AllByRecursion, Contains, list_any}
+use Rattle.upd_deck.proofs.Common.{bytes_eq, FaultKind, is_blank, is_comma, ends_word, up_to, from_first, is_starred, word, fields, ◌>>=◌, refuse_if, Word}
+use Rattle.upd_deck.proofs.Common.{ItemView, Text, IsInk, IsStarLine, Bare, Fields, Says, Directive, Other, Spelling, spelled, spellings, meaning}
+use Rattle.upd_deck.proofs.Common.{are_its_fields, item_with, item_by, item_of}
+use Rattle.std.specs.List.{find}
 use Rattle.std.specs.Option.{option_map}
-use Rattle.std.specs.Str.{bytes_eq}
-use Rattle.upd_text.specs.declared.fault.FaultKind.{FaultKind}
 use Rattle.upd_text.specs.declared.fault.FaultKind.TheVariants as fault
-use Rattle.upd_text.specs.Lines.{is_blank, is_comma, ends_word, up_to, from_first, is_starred, word, fields}
-use Rattle.upd_text.specs.Outcome.{◌>>=◌, refuse_if}
-use Rattle.upd_deck.specs.declared.word.Word.{Word}
-use Rattle.upd_deck.specs.Items.{ItemView, Text}
-use Rattle.upd_deck.specs.Grammar.{IsInk, IsStarLine, Bare, Fields, EndsWord, HasWord, Starred, Means, Says, Directive, Other}
-use Rattle.upd_deck.specs.Reading.{Spelling, spelled, spellings, meaning, are_its_fields, item_with, item_by, item_of}
+use Rattle.upd_deck.specs.Grammar.{EndsWord, HasWord, Starred, Means}
 use Rattle.upd_deck.proofs.GrammarParts.{all_weaker, Begins, up_to_end, both_parts, up_to_all, from_begins, ink_no_end, no_end_ink}
 use Rattle.upd_deck.proofs.GrammarFields.{star_line_read, star_line_back}
 use Rattle.upd_deck.proofs.GrammarNames.{done, ok_same}

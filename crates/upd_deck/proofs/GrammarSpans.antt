@@ -1,11 +1,10 @@
 -- The lines of a run are at their spans.
-use Rattle.std.proofs.Common.{◌≡◌, ℕ, ◌+◌, eqb, cond, false, List, [], ◌∷◌, ◌++◌, length, length-append, append_assoc, append-nil, refl, sym, ap, ◌∙◌, subst}
-use Rattle.std.proofs.Common.{Ok, arith}
+use Rattle.upd_deck.proofs.Common.{◌≡◌, ℕ, ◌+◌, eqb, cond, false, List, [], ◌∷◌, ◌++◌, length, length-append, append_assoc, append-nil, refl, sym, ap, ◌∙◌}
+use Rattle.upd_deck.proofs.Common.{subst, Ok, arith, AllByRecursion, LineView, blanks, Trimmed, IsLine, Comment, Line, Feed, ReturnFeed, AreLines, NoMore}
+use Rattle.upd_deck.proofs.Common.{LastLine, NextLine, is_feed, reading}
 use Rattle.std.proofs.lemmas.List.Sums.{sum_by-append, sum_by-cons}
-use Rattle.std.specs.List.{AllByRecursion, count_by}
-use Rattle.upd_deck.specs.Items.{LineView}
-use Rattle.upd_deck.specs.Grammar.{blanks, Trimmed, IsLine, Comment, Line, IsLineEnd, Feed, ReturnFeed, AreLines, NoMore, LastLine, NextLine, StandsIn}
-use Rattle.upd_deck.specs.Reading.{is_feed, reading}
+use Rattle.std.specs.List.{count_by}
+use Rattle.upd_deck.specs.Grammar.{IsLineEnd, StandsIn}
 use Rattle.upd_deck.proofs.GrammarParts.{all_append}
 use Rattle.upd_deck.proofs.GrammarRuns.{line_plain, plain_feed, run_back}
 

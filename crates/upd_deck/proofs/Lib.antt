@@ -9,5 +9,6 @@ pub mod GrammarLines
 pub mod GrammarRuns
 pub mod GrammarSpans
 pub mod CallLaws
+pub mod Common
 pub mod RefusalFields
 pub mod RefusalRuns

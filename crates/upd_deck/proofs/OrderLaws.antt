@@ -1,20 +1,14 @@
 -- The lines of a run are in order.
-use Rattle.std.proofs.Common.{◌≡◌, ℕ, ◌+◌, ◌-◌, ◌<◌, ◌≤◌, ◌==◌, nat_lt, Bool, true, false, cond, if◌then◌else◌, not, List, [], ◌∷◌, ◌++◌, length, take, drop}
-use Rattle.std.proofs.Common.{get_or, length-append, Result, Ok, Err, IfOk, sym, ap, ◌∙◌, subst, refl, arith}
-use Rattle.std.specs.List.{AllByRecursion, list_all, slice_split, suffix_len}
-use Rattle.std.specs.Str.Lines.{strip_carriage_return}
+use Rattle.upd_deck.proofs.Common.{◌≡◌, ℕ, ◌+◌, ◌-◌, ◌<◌, ◌≤◌, ◌==◌, Bool, true, false, cond, not, List, [], ◌∷◌, ◌++◌, length, take, drop, get_or}
+use Rattle.upd_deck.proofs.Common.{length-append, Result, Ok, Err, sym, ap, ◌∙◌, subst, refl, arith, AllByRecursion, list_all, slice_split, suffix_len}
+use Rattle.upd_deck.proofs.Common.{strip_carriage_return, cond_both, Fault, FaultKind, MAX_RUN_BYTES, MAX_RUN_LINES, MAX_LINE_BYTES, is_blank, is_comment}
+use Rattle.upd_deck.proofs.Common.{◌>>=◌, at_line, each, refuse_if, ItemView, LineView, line_view, CutLine, cut, cut_from, is_allowed, is_feed, item_of}
+use Rattle.upd_deck.proofs.Common.{reading, said, said_at, trimmed}
+use Rattle.std.proofs.Common.{nat_lt, if◌then◌else◌, IfOk}
 use Rattle.std.proofs.lemmas.Bool.Decides.{nat_tests}
-use Rattle.std.proofs.lemmas.Bool.{cond_both}
 use Rattle.std.proofs.lemmas.List.{append-nil, take-append-drop}
-use Rattle.upd_text.specs.declared.fault.Fault.{Fault}
-use Rattle.upd_text.specs.declared.fault.FaultKind.{FaultKind}
 use Rattle.upd_text.specs.declared.fault.FaultKind.TheVariants as fault
-use Rattle.upd_text.specs.declared.limits.TheConstants.{MAX_RUN_BYTES, MAX_RUN_LINES, MAX_LINE_BYTES}
-use Rattle.upd_text.specs.Lines.{is_blank, is_comment}
-use Rattle.upd_text.specs.Outcome.{◌>>=◌, at_line, each, refuse_if}
-use Rattle.upd_deck.specs.Items.{ItemView, LineView, line_view}
 use Rattle.upd_deck.specs.Order.{FollowFrom}
-use Rattle.upd_deck.specs.Reading.{CutLine, cut, cut_from, is_allowed, is_feed, item_of, reading, said, said_at, trimmed}
 use Rattle.upd_deck.proofs.GrammarNames.{step_back, ok_same}
 
 -- ---- the reading of a line

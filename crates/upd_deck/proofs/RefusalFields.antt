@@ -1,26 +1,17 @@
 -- The fields of a word are refused exactly as the order of refusals says.
-use Rattle.std.proofs.Common.{◌≡◌, ℕ, zero, suc, Bool, true, false, cond, eqb, not, ◌&&◌, ◌⊎◌, inl, inr, ⊎_elim, List, [], ◌∷◌, ◌++◌, length, codes, refl, sym}
-use Rattle.std.proofs.Common.{ap, ◌∙◌, subst, Option, Some, None, Result, Ok, Err, arith}
-use Rattle.std.proofs.lemmas.Bool.{and_parts, or_left, or_right, or_cases, both_ways, false_from_ne_true, false≢true, eqb-true}
-use Rattle.std.proofs.lemmas.Slice.Eq.{bytes_eq-Decides}
-use Rattle.std.specs.List.{AllByRecursion, AllZip, Contains, list_any, before_first, after_first}
-use Rattle.std.specs.Str.{bytes_eq}
-use Rattle.upd_text.specs.declared.card_ref.CardRef.{CardRef}
-use Rattle.upd_text.specs.declared.fault.FaultKind.{FaultKind}
+use Rattle.upd_deck.proofs.Common.{◌≡◌, ℕ, zero, suc, Bool, true, false, cond, eqb, not, ◌&&◌, ◌⊎◌, inl, inr, ⊎_elim, List, [], ◌∷◌, ◌++◌, length, codes}
+use Rattle.upd_deck.proofs.Common.{refl, sym, ap, ◌∙◌, subst, Option, Some, None, Result, Ok, Err, arith, and_parts, or_left, or_right, or_cases, both_ways}
+use Rattle.upd_deck.proofs.Common.{false_from_ne_true, false≢true, eqb-true, bytes_eq-Decides, AllByRecursion, AllZip, Contains, list_any, before_first}
+use Rattle.upd_deck.proofs.Common.{after_first, bytes_eq, CardRef, FaultKind, is_name, is_point, ◌>>=◌, need, refuse_if, NameRange, IdentIn, Word, ItemView}
+use Rattle.upd_deck.proofs.Common.{Call, Ident, Deck, CommonDeck, Insert, Before, Delete, Restore, Yank, SelYank, YankDeck, Purge, PurgeFrom, SelPurge}
+use Rattle.upd_deck.proofs.Common.{PurDeck, Compile, IsName, IsCard, IsRange, IsPair, Takes, TakesCall, TakesIdent, TakesDeck, TakesCommon, TakesMarked}
+use Rattle.upd_deck.proofs.Common.{TakesInsert, TakesBefore, TakesDelete, TakesDeletes, TakesRestore, TakesRestores, TakesYank, TakesSelYank, TakesYankDeck}
+use Rattle.upd_deck.proofs.Common.{TakesPurge, TakesPurgeFrom, TakesSelPurge, TakesPurDeck, TakesCompile, first_field, last_of_two, are_its_fields, name_in}
+use Rattle.upd_deck.proofs.Common.{card_ref_in, names_in, ident_in, range_in, one_in, each_in, is_from_name, item_with, item_by}
 use Rattle.upd_text.specs.declared.fault.FaultKind.TheVariants as fault
-use Rattle.upd_text.specs.Names.{is_name, is_point, card_of}
-use Rattle.upd_text.specs.Outcome.{◌>>=◌, need, refuse_if}
-use Rattle.upd_deck.specs.declared.item.NameRange.{NameRange}
-use Rattle.upd_deck.specs.declared.item.IdentIn.{IdentIn}
-use Rattle.upd_deck.specs.declared.word.Word.{Word}
+use Rattle.upd_text.specs.Names.{card_of}
 use Rattle.upd_deck.specs.declared.word.Word.TheVariants as words
-use Rattle.upd_deck.specs.Items.{ItemView, Call, Ident, Deck, CommonDeck, Insert, Before, Delete, Restore, Yank, SelYank, YankDeck, Purge, PurgeFrom, SelPurge}
-use Rattle.upd_deck.specs.Items.{PurDeck, Compile}
-use Rattle.upd_deck.specs.Grammar.{IsName, IsCard, IsRange, IsPair, Takes, TakesCall, TakesIdent, TakesDeck, TakesCommon, TakesMarked, TakesInsert, TakesBefore}
-use Rattle.upd_deck.specs.Grammar.{TakesDelete, TakesDeletes, TakesRestore, TakesRestores, TakesYank, TakesSelYank, TakesYankDeck, TakesPurge, TakesPurgeFrom}
-use Rattle.upd_deck.specs.Grammar.{TakesSelPurge, TakesPurDeck, TakesCompile}
-use Rattle.upd_deck.specs.Reading.{may_have, first_field, last_of_two, is_marked_right, are_its_fields, name_in, card_ref_in, names_in, ident_in, range_in}
-use Rattle.upd_deck.specs.Reading.{one_in, each_in, is_from_name, item_with, item_by}
+use Rattle.upd_deck.specs.Reading.{may_have, is_marked_right}
 use Rattle.upd_deck.specs.Refusals.{AreMisplaced, Count, Empty, Mark, IsWanted, field_fault, EndsInStar, FromName, FieldsFail, Whole, Leftmost}
 use Rattle.upd_deck.proofs.GrammarNames.{done, name_read, ident_read, ident_back, range_read, range_back, card_read, card_back}
 use Rattle.upd_deck.proofs.GrammarItems.{takes_read, takes_back}

@@ -1,18 +1,11 @@
 -- A run is refused with a fault exactly when the order of refusals gives that fault.
-use Rattle.std.proofs.Common.{◌≡◌, ◌↔◌, ℕ, zero, suc, ◌≤◌, Bool, true, false, cond, ltb, not, ◌&&◌, List, [], ◌∷◌, ◌++◌, length, refl, sym, ap, ◌∙◌, subst}
-use Rattle.std.proofs.Common.{Option, Some, None, Result, Ok, Err, arith}
-use Rattle.std.proofs.lemmas.Bool.{both_ways, false_from_ne_true, false≢true, ltb-true, ltb-false, lt-ltb, le-ltb}
-use Rattle.std.specs.List.{AllByRecursion, Contains, list_all}
-use Rattle.upd_text.specs.declared.fault.Fault.{Fault}
-use Rattle.upd_text.specs.declared.fault.FaultKind.{FaultKind}
+use Rattle.upd_deck.proofs.Common.{◌≡◌, ◌↔◌, ℕ, zero, suc, ◌≤◌, Bool, true, false, cond, ltb, not, ◌&&◌, List, [], ◌∷◌, ◌++◌, length, refl, sym, ap, ◌∙◌}
+use Rattle.upd_deck.proofs.Common.{subst, Option, Some, None, Result, Ok, Err, arith, both_ways, false_from_ne_true, false≢true, ltb-false, le-ltb}
+use Rattle.upd_deck.proofs.Common.{AllByRecursion, Contains, list_all, Fault, FaultKind, MAX_RUN_BYTES, MAX_RUN_LINES, MAX_LINE_BYTES, is_comment, is_starred}
+use Rattle.upd_deck.proofs.Common.{word, fields, ◌>>=◌, refuse_if, at_line, each, Word, LineView, line_view, Text, blanks, IsAllowed, IsTextOf, meaning}
+use Rattle.upd_deck.proofs.Common.{item_by, item_of, trimmed, is_allowed, text_of, CutLine, cut, said, said_at, reading}
+use Rattle.std.proofs.lemmas.Bool.{ltb-true, lt-ltb}
 use Rattle.upd_text.specs.declared.fault.FaultKind.TheVariants as fault
-use Rattle.upd_text.specs.declared.limits.TheConstants.{MAX_RUN_BYTES, MAX_RUN_LINES, MAX_LINE_BYTES}
-use Rattle.upd_text.specs.Lines.{is_comment, is_starred, word, fields}
-use Rattle.upd_text.specs.Outcome.{◌>>=◌, refuse_if, at_line, each}
-use Rattle.upd_deck.specs.declared.word.Word.{Word}
-use Rattle.upd_deck.specs.Items.{LineView, line_view, Text}
-use Rattle.upd_deck.specs.Grammar.{blanks, IsAllowed, IsTextOf}
-use Rattle.upd_deck.specs.Reading.{meaning, item_by, item_of, trimmed, is_allowed, text_of, CutLine, cut, said, said_at, reading}
 use Rattle.upd_deck.specs.Refusals.{LineFails, Byte, Long, Fields, IsFaultless, fault_of, RunFails, ManyBytes, ManyLines, FirstFaulty}
 use Rattle.upd_deck.proofs.GrammarNames.{all_of, all_to, done}
 use Rattle.upd_deck.proofs.GrammarParts.{all_weaker, all_append}

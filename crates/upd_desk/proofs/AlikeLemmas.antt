@@ -1,17 +1,9 @@
 -- Journals that are continued alike, and what tables hold after one more event.
-use Rattle.std.proofs.Common.{◌≡◌, ℕ, nat_lt, true, false, List, ◌∷◌, Option, Some, None}
-use Rattle.std.proofs.Common.{Result, Ok, Err, refl, ap, sym, ◌∙◌, subst}
-use Rattle.std.specs.List.{list_any, find}
-use Rattle.std.specs.Option.{option_map_or}
-use Rattle.upd_text.specs.declared.fault.Fault.{Fault}
-use Rattle.upd_records.specs.Rows.{Rows, Shows, ShowsStates}
-use Rattle.upd_compile.specs.declared.mode.Mode.{Mode}
-use Rattle.upd_row_store.specs.Tables.{is_run, run_at, is_mark_of}
-use Rattle.upd_desk.specs.Arrivals.{ArrivalView, check_arrival}
-use Rattle.upd_desk.specs.Journal.{Alike, Event, Came, Carried, Settled, Heard, Journal, mark, has_key, with_arrival, distinct}
-use Rattle.upd_desk.specs.Journal.{made_by, library_after, answered, kept}
-use Rattle.upd_desk.specs.Outcomes.{outcome}
-use Rattle.upd_desk.specs.Holding.{Holds, AddsRun}
+use Rattle.upd_desk.proofs.Common.{◌≡◌, ℕ, nat_lt, true, false, List, ◌∷◌, Option, Some, None, Result, Ok, Err, refl, ap, sym, ◌∙◌, subst, list_any, find}
+use Rattle.upd_desk.proofs.Common.{option_map_or, Fault, Rows, Shows, ShowsStates, Mode, is_run, run_at, ArrivalView, check_arrival, Alike, Event, Came}
+use Rattle.upd_desk.proofs.Common.{Carried, Settled, Heard, Journal, mark, has_key, with_arrival, distinct, made_by, library_after, answered, kept, outcome}
+use Rattle.upd_desk.proofs.Common.{Holds, AddsRun}
+use Rattle.upd_row_store.specs.Tables.{is_mark_of}
 use Rattle.upd_desk.proofs.JournalLemmas.{answered_any, heard_new}
 use Rattle.upd_desk.proofs.KeptLemmas.{kept_with_run, not_below}
 use Rattle.upd_desk.proofs.RepeatLemmas.{missed}

@@ -1,19 +1,10 @@
 -- Which answer an arrival gets, by what the tables hold.
-use Rattle.std.proofs.Common.{◌≡◌, nat_lt, nat_le, Bool, true, false, not, ◌∷◌, Option, Some, None}
-use Rattle.std.proofs.Common.{Result, Ok, Err, length, refl, ap, sym, ◌∙◌, rules}
-use Rattle.upd_text.specs.declared.fault.Fault.{Fault}
+use Rattle.upd_desk.proofs.Common.{◌≡◌, nat_lt, nat_le, Bool, true, false, not, ◌∷◌, Option, Some, None, Result, Ok, Err, length, refl, ap, sym, ◌∙◌, rules}
+use Rattle.upd_desk.proofs.Common.{Fault, ◌>>=◌, at_line, need, refuse_if, RunView, Rows, Mode, mode_named, run_at, mark_at, is_site, is_run_number}
+use Rattle.upd_desk.proofs.Common.{ArrivalView, check_arrival, Came, Journal, mark, distinct, library_after, kept, reply_to, answer, ReplyView, outcome}
+use Rattle.upd_desk.proofs.Common.{Holds, is_lost}
 use Rattle.upd_text.specs.declared.fault.FaultKind.TheVariants as fault
 use Rattle.upd_text.specs.declared.limits.TheConstants.{MAX_RUN_BYTES}
-use Rattle.upd_text.specs.Outcome.{◌>>=◌, at_line, need, refuse_if}
-use Rattle.upd_records.specs.Rows.{RunView, Rows}
-use Rattle.upd_compile.specs.declared.mode.Mode.{Mode}
-use Rattle.upd_compile.specs.Modes.{mode_named}
-use Rattle.upd_row_store.specs.Tables.{run_at, mark_at}
-use Rattle.upd_text.specs.Keys.{is_site, is_run_number}
-use Rattle.upd_desk.specs.Arrivals.{ArrivalView, check_arrival}
-use Rattle.upd_desk.specs.Journal.{Came, Journal, mark, distinct, library_after, kept, reply_to, answer}
-use Rattle.upd_desk.specs.Outcomes.{ReplyView, outcome}
-use Rattle.upd_desk.specs.Holding.{Holds, is_lost}
 use Rattle.upd_desk.proofs.JournalLemmas.{unheard_known}
 use Rattle.upd_desk.proofs.KeptLemmas.{not_below}
 use Rattle.upd_desk.proofs.RepeatLemmas.{known_where_kept}

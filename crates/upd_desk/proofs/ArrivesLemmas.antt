@@ -1,25 +1,13 @@
 -- What each answer to an arrival makes of a desk over a store.
-use Rattle.std.proofs.Common.{◌≡◌, ℕ, suc, ◌≤◌, ◌<◌, nat_lt, nat_le, Bool, true, false, ◌⊎◌, if◌then◌else◌, List, ◌∷◌}
-use Rattle.std.proofs.Common.{Option, Some, None, IsSome, Result, Ok, Err, IsErrAnd, ◌==◌, ◌&&◌}
-use Rattle.std.proofs.Common.{inl, inr, refl, ap, sym, ◌∙◌, subst, rules, arith}
-use Rattle.std.specs.Str.{bytes_eq}
-use Rattle.std.proofs.lemmas.Bool.{false≢true}
-use Rattle.std.proofs.lemmas.Bool.Decides.{nat_tests}
-use Rattle.upd_text.specs.declared.fault.Fault.{Fault}
+use Rattle.upd_desk.proofs.Common.{◌≡◌, ℕ, suc, ◌≤◌, ◌<◌, nat_lt, nat_le, Bool, true, false, ◌⊎◌, if◌then◌else◌, List, ◌∷◌, Option, Some, None, Result, Ok}
+use Rattle.upd_desk.proofs.Common.{Err, ◌==◌, ◌&&◌, inl, inr, refl, ap, sym, ◌∙◌, subst, rules, arith, bytes_eq, false≢true, nat_tests, Fault, fault_at}
+use Rattle.upd_desk.proofs.Common.{LibraryView, empty, RunView, Rows, Shows, ShowsStates, Mode, Ghosts, IsLost, Keeps, OfMemory, mark_at, run_at, keeps_still}
+use Rattle.upd_desk.proofs.Common.{later_twice, ArrivalView, check_arrival, mode_number, Alike, Event, Came, Journal, answer, distinct, mark, reply_to}
+use Rattle.upd_desk.proofs.Common.{library_after, IsMade, ReplyView, outcome, Arrives, Becomes, Guards, HoldsIn, IsHeld, IsIdle, IsLeft, TriesRun, is_lost}
+use Rattle.std.proofs.Common.{IsSome, IsErrAnd}
 use Rattle.upd_text.specs.declared.fault.FaultKind.TheVariants as fault
-use Rattle.upd_text.specs.Faults.{fault_at}
-use Rattle.upd_core.specs.Library.{LibraryView, empty}
-use Rattle.upd_records.specs.Rows.{RunView, Rows, Shows, ShowsStates}
-use Rattle.upd_compile.specs.declared.mode.Mode.{Mode}
-use Rattle.upd_row_store.specs.declared.meaning.Meaning.{Ghosts}
-use Rattle.upd_row_store.specs.Keeping.{IsLost, Keeps, OfMemory, OfStore}
-use Rattle.upd_row_store.specs.Tables.{mark_at, run_at}
-use Rattle.upd_row_store.proofs.StoreLemmas.{keeps_still, later_twice}
-use Rattle.upd_desk.specs.Arrivals.{ArrivalView, check_arrival, mode_number}
-use Rattle.upd_desk.specs.Journal.{Alike, Event, Came, Journal, answer, distinct, mark, reply_to, library_after}
-use Rattle.upd_desk.specs.Made.{IsMade}
-use Rattle.upd_desk.specs.Outcomes.{ReplyView, outcome}
-use Rattle.upd_desk.specs.Holding.{Arrives, Becomes, Guards, HoldsIn, IsHeld, IsIdle, IsLeft, IsUnadmitted, TriesRun, is_lost}
+use Rattle.upd_row_store.specs.Keeping.{OfStore}
+use Rattle.upd_desk.specs.Holding.{IsUnadmitted}
 use Rattle.upd_desk.proofs.AlikeLemmas.{alike_more, alike_unheard, holds_alike, holds_new}
 use Rattle.upd_desk.proofs.AnswerLemmas.{answer_again, answer_unadmitted, answer_new, answer_settled, admission_not_lost}
 use Rattle.upd_desk.proofs.RepeatLemmas.{refused_unheard}
@@ -51,11 +39,6 @@ changed_is mode a l run f is = go ((run.mode == mode_number mode) && bytes_eq ru
 pub changed_keeps : (mode : Mode) (a : ArrivalView) (l : LibraryView) (run : RunView) (f : Fault) → Err f ≡ reply_to mode a l (Some run)
     → is_lost f.kind ≡ false
 changed_keeps mode a l run f is = ap (λ g. is_lost g.kind) (changed_is mode a l run f is)
-
--- what the first checks refuse gets their refusal, and what they let pass isn't refused by them
-pub unadmitted : {X A S : Type 0} (checked : Result X Fault) (f : Fault) (result : Result A Fault) (s : S)
-    → Err f ≡ checked → IsErrAnd result (λ e. e ≡ f) → IsUnadmitted checked result s s
-unadmitted checked f result s is same = subst (λ r. IsUnadmitted r result s s) is (same, refl)
 
 -- ---- images
 
@@ -130,7 +113,8 @@ module _ {S : Type 0} {meaning : Ghosts S} where
   -- A call that only read, and a stored reply: nothing changed, and nothing is in hand.
   pub tells : (leaves : LeavesTables meaning) (a : ArrivalView) (reply : ReplyView)
       (old new : S) → Keeps meaning old new → (is_honest new → is_open new)
-      → (is_honest new → (j : Journal) → IsHeld meaning j old → (answer j a ≡ Ok reply) × (distinct (Came a ∷ j) ≡ distinct j)) → Arrives meaning a (Ok reply) old new
+      → (is_honest new → (j : Journal) → IsHeld meaning j old → (answer j a ≡ Ok reply) × (distinct (Came a ∷ j) ≡ distinct j))
+      → Arrives meaning a (Ok reply) old new
   tells leaves a reply old new keeps opens answers = record {
     later = keeps.later;
     opens = opens;

@@ -1,19 +1,11 @@
 -- The compile file from the active cards that are at hand is the one of the library.
-use Rattle.std.proofs.Common.{◌≡◌, Bool, true, false, not, cond, ◌&&◌, List, [], ◌∷◌, Ok, refl, sym, ap, ◌∙◌}
-use Rattle.std.specs.List.{filter, flat_map}
-use Rattle.upd_text.specs.declared.limits.TheConstants.{MAX_DEPTH}
-use Rattle.upd_core.specs.Actives.{ActiveDeckView, ActivesView, actives_of}
-use Rattle.upd_core.specs.Edits.{is_among}
-use Rattle.upd_core.specs.Library.{LibraryView}
-use Rattle.upd_deck.specs.Items.{LineView}
-use Rattle.upd_apply.specs.Applying.{Reached}
+use Rattle.upd_desk.proofs.Common.{◌≡◌, Bool, true, false, not, ◌&&◌, List, [], ◌∷◌, Ok, refl, sym, ap, ◌∙◌, filter, flat_map, MAX_DEPTH, ActivesView}
+use Rattle.upd_desk.proofs.Common.{actives_of, is_among, LibraryView, LineView, Reached, compile_file_of, walk, Mode, AppliedRun, IsAppliedRun}
+use Rattle.std.proofs.Common.{cond}
+use Rattle.upd_core.specs.Actives.{ActiveDeckView}
 use Rattle.upd_compile.specs.Chosen.{is_common_deck}
-use Rattle.upd_compile.specs.File.{compile_file_of, written}
-use Rattle.upd_compile.specs.Walk.{walk}
-use Rattle.upd_compile.specs.declared.mode.Mode.{Mode}
+use Rattle.upd_compile.specs.File.{written}
 use Rattle.upd_compile.specs.declared.mode.Mode.TheVariants.{Quick}
-use Rattle.upd_desk.specs.declared.outcome.AppliedRun.{AppliedRun}
-use Rattle.upd_desk.specs.Compiling.{IsAppliedRun}
 
 none_named : (common : ActiveDeckView → Bool) (ds : List ActiveDeckView) → filter (λ d. not (common d) && is_among [] d.ident) ds ≡ []
 none_named common [] = refl

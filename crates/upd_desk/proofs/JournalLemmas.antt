@@ -1,11 +1,6 @@
 -- How a journal goes on with one more event.
-use Rattle.std.proofs.Common.{◌≡◌, ℕ, nat_lt, Bool, true, false, not, ◌&&◌, if◌then◌else◌, List, [], ◌∷◌, None, Ok, Err, refl}
-use Rattle.std.specs.List.{list_any}
-use Rattle.upd_text.specs.declared.fault.Fault.{Fault}
-use Rattle.upd_compile.specs.declared.mode.Mode.{Mode}
-use Rattle.upd_row_store.specs.Tables.{is_run}
-use Rattle.upd_desk.specs.Arrivals.{ArrivalView, check_arrival}
-use Rattle.upd_desk.specs.Journal.{Came, Heard, Journal, mark, has_key, distinct, answered}
+use Rattle.upd_desk.proofs.Common.{◌≡◌, ℕ, nat_lt, Bool, true, false, not, ◌&&◌, if◌then◌else◌, List, [], ◌∷◌, None, Ok, Err, refl, list_any, Fault, Mode}
+use Rattle.upd_desk.proofs.Common.{is_run, ArrivalView, check_arrival, Came, Heard, Journal, mark, has_key, distinct, answered}
 
 -- an arrival that is refused by the admission checks changes nothing
 pub unheard_unadmitted : (j : Journal) (a : ArrivalView) (fault : Fault) → check_arrival a ≡ Err fault → distinct (Came a ∷ j) ≡ distinct j

@@ -1,15 +1,9 @@
 -- What is kept under each key, and each site's mark, after one more run and after a settlement.
-use Rattle.std.proofs.Common.{◌≡◌, ℕ, nat_lt, nat_le, max, Bool, true, false, ◌&&◌, ◌||◌, if◌then◌else◌, List, [], ◌∷◌, ◌++◌, Option, Some, None}
-use Rattle.std.proofs.Common.{refl, ap, ◌∙◌, rules, arith}
-use Rattle.std.specs.List.{list_any, find}
-use Rattle.std.specs.Str.{bytes_eq}
-use Rattle.std.proofs.lemmas.Bool.Decides.{nat_tests}
-use Rattle.upd_records.specs.Rows.{RunView, Rows}
-use Rattle.upd_row_store.specs.Tables.{is_run, run_at, mark_at, settled_to}
-use Rattle.upd_row_store.proofs.TableLemmas.{is_same_bytes, mark_at_settled, max_left, max_right, run_at_committed, run_at_settled, same_bytes, same_key}
-use Rattle.upd_row_store.proofs.TableLemmas.{unequal}
-use Rattle.upd_desk.specs.Journal.{Heard, Journal, Settled, mark, has_key, distinct, run_of, answered, kept}
-use Rattle.upd_desk.specs.Outcomes.{ReplyView}
+use Rattle.upd_desk.proofs.Common.{◌≡◌, ℕ, nat_lt, nat_le, max, Bool, true, false, ◌&&◌, ◌||◌, if◌then◌else◌, List, [], ◌∷◌, ◌++◌, Option, Some, None, refl}
+use Rattle.upd_desk.proofs.Common.{ap, ◌∙◌, rules, arith, list_any, find, bytes_eq, nat_tests, RunView, Rows, is_run, run_at, mark_at, settled_to}
+use Rattle.upd_desk.proofs.Common.{is_same_bytes, max_left, max_right, same_bytes, same_key, Heard, Journal, Settled, mark, has_key, distinct, run_of}
+use Rattle.upd_desk.proofs.Common.{answered, kept, ReplyView}
+use Rattle.upd_row_store.proofs.TableLemmas.{mark_at_settled, run_at_committed, run_at_settled, unequal}
 use Rattle.upd_desk.proofs.JournalLemmas.{answered_any}
 
 -- ---- lists

@@ -1,23 +1,16 @@
 -- Laws of whole journals: which runs are distinct, what a mark is, what alike journals share, and what an arrival keeps.
-use Rattle.std.proofs.Common.{◌≡◌, ℕ, ◌≤◌, ◌<◌, ◌==◌, nat_lt, nat_le, max, Bool, true, false, not, ◌&&◌, ◌||◌, ◌⊎◌, if◌then◌else◌, List, [], ◌∷◌, ◌++◌}
-use Rattle.std.proofs.Common.{suc, zero, Option, Some, None, Result, Ok, Err, inl, inr, refl, ap, sym, ◌∙◌, subst, arith}
-use Rattle.std.specs.List.{Contains, find, list_any}
-use Rattle.std.specs.Str.{bytes_eq}
+use Rattle.upd_desk.proofs.Common.{◌≡◌, ℕ, ◌≤◌, ◌<◌, ◌==◌, nat_lt, nat_le, max, Bool, true, false, not, ◌&&◌, ◌||◌, ◌⊎◌, if◌then◌else◌, List, [], ◌∷◌, ◌++◌}
+use Rattle.upd_desk.proofs.Common.{suc, Option, Some, None, Result, Ok, Err, inl, inr, refl, ap, sym, ◌∙◌, subst, arith, find, list_any, bytes_eq, nat_tests}
+use Rattle.upd_desk.proofs.Common.{Fault, LibraryView, RunView, Mode, is_run, is_same_bytes, max_left, max_right, same_bytes, same_key, ArrivalView}
+use Rattle.upd_desk.proofs.Common.{check_arrival, mode_number, Alike, Event, Came, Carried, Settled, Heard, Journal, answer, answered, distinct, has_key}
+use Rattle.upd_desk.proofs.Common.{kept, made_by, mark, reply_to, run_of, with_arrival, library_after, Compiled, ReplyView, compiled, outcome, outcome_by}
+use Rattle.std.proofs.Common.{zero}
+use Rattle.std.specs.List.{Contains}
 use Rattle.std.proofs.Math.Nat.{le-max_left}
-use Rattle.std.proofs.lemmas.Bool.Decides.{nat_tests}
-use Rattle.upd_text.specs.declared.fault.Fault.{Fault}
 use Rattle.upd_text.specs.declared.fault.FaultKind.TheVariants as fault
-use Rattle.upd_core.specs.Library.{LibraryView}
-use Rattle.upd_records.specs.Rows.{RunView}
-use Rattle.upd_compile.specs.declared.mode.Mode.{Mode}
 use Rattle.upd_deck.proofs.GrammarNames.{ok_same}
 use Rattle.upd_laws.proofs.SoundListLemmas.{find_passes}
-use Rattle.upd_row_store.specs.Tables.{is_run}
-use Rattle.upd_row_store.proofs.TableLemmas.{is_same_bytes, max_left, max_right, same_bytes, same_key}
-use Rattle.upd_desk.specs.Arrivals.{ArrivalView, check_arrival, mode_number}
-use Rattle.upd_desk.specs.Journal.{Alike, Event, Came, Carried, Settled, Heard, Journal, answer, answered, distinct, first_arrivals, has_key, heard}
-use Rattle.upd_desk.specs.Journal.{heard_one, kept, made_by, mark, reply_to, run_of, with_arrival, library_after}
-use Rattle.upd_desk.specs.Outcomes.{Compiled, ReplyView, compiled, outcome, outcome_by}
+use Rattle.upd_desk.specs.Journal.{first_arrivals, heard, heard_one}
 use Rattle.upd_desk.proofs.AlikeLemmas.{alike_more, unkept_key}
 use Rattle.upd_desk.proofs.AnswerLemmas.{answer_unadmitted}
 use Rattle.upd_desk.proofs.JournalLemmas.{heard_new, unheard_known}

@@ -1,39 +1,22 @@
 -- The row changes of a run, and those of its status update after them, lead tables to the library that it leaves.
-use Rattle.std.proofs.Common.{◌≡◌, ℕ, ◌+◌, ◌<◌, ◌≤◌, ◌^◌, nat_le, true, ◌&&◌, List, [], ◌++◌, length, map, sum_by, None, Ok, Err, refl, ap, sym, ◌∙◌}
-use Rattle.std.proofs.Common.{subst, arith}
-use Rattle.std.specs.List.{AllByRecursion}
-use Rattle.std.proofs.lemmas.Bool.Decides.{nat_tests}
+use Rattle.upd_desk.proofs.Common.{◌≡◌, ℕ, ◌+◌, ◌<◌, ◌≤◌, ◌^◌, nat_le, true, ◌&&◌, List, [], ◌++◌, length, map, None, Ok, Err, refl, ap, sym, ◌∙◌, subst}
+use Rattle.upd_desk.proofs.Common.{arith, AllByRecursion, nat_tests, Fault, DeckView, LibraryView, ChangeView, change_view, done_all, AllFit, Rows, RunView}
+use Rattle.upd_desk.proofs.Common.{Shows, ShowsStates, LineView, reading, Reached, applied, touched, Mode, FileView, compile_file_of, and_right, run_goes}
+use Rattle.upd_desk.proofs.Common.{committed, affected, altered, AppliedRun, ArrivalView, check_arrival, IsAppliedRun, IsRefusal, AddsRun, Heard, run_of}
+use Rattle.upd_desk.proofs.Common.{IsMade, LeadTo, looked_at, Compiled, compiled, outcome, outcome_by}
+use Rattle.std.proofs.Common.{sum_by}
 use Rattle.std.proofs.lemmas.List.{map-append}
 use Rattle.std.proofs.lemmas.List.Sums.{sum_by-cons}
-use Rattle.upd_text.specs.declared.fault.Fault.{Fault}
 use Rattle.upd_text.specs.declared.limits.TheConstants.{MAX_CARDS, MAX_ENTRIES, MAX_HELD, MAX_INTRODUCED, MAX_TARGETS}
-use Rattle.upd_core.specs.Library.{DeckView, LibraryView}
 use Rattle.upd_core.specs.Limits.{card_count, entry_count, held_count, is_within_limits, target_count}
 use Rattle.upd_core.specs.declared.change.Change.{Change}
-use Rattle.upd_records.specs.Changes.{ChangeView, change_view, done_all}
-use Rattle.upd_records.specs.Fits.{AllFit}
-use Rattle.upd_records.specs.Rows.{Rows, RunView, Shows, ShowsStates}
 use Rattle.upd_diff.specs.States.{row_changes_state}
 use Rattle.upd_diff.proofs.FitLemmas.{done_append, fit_append, shows_stay, states_fit}
 use Rattle.upd_diff.proofs.ShownRowsLemmas.{fit_row_changes, shown_by_row_changes}
-use Rattle.upd_deck.specs.Items.{LineView}
-use Rattle.upd_deck.specs.Reading.{reading}
-use Rattle.upd_apply.specs.Applying.{Reached, applied, touched}
-use Rattle.upd_compile.specs.declared.mode.Mode.{Mode}
-use Rattle.upd_compile.specs.File.{FileView, compile_file_of}
-use Rattle.upd_laws.proofs.SoundListLemmas.{and_left, and_right}
-use Rattle.upd_laws.proofs.SoundRunLemmas.{run_goes}
-use Rattle.upd_row_store.specs.Tables.{committed}
-use Rattle.upd_yank.specs.Affected.{affected, altered}
+use Rattle.upd_laws.proofs.SoundListLemmas.{and_left}
 use Rattle.upd_yank.proofs.RightLemmas.{least_affected}
-use Rattle.upd_desk.specs.declared.outcome.AppliedRun.{AppliedRun}
 use Rattle.upd_desk.specs.declared.outcome.RunOutcome.{RunOutcome}
-use Rattle.upd_desk.specs.Arrivals.{ArrivalView, check_arrival}
-use Rattle.upd_desk.specs.Compiling.{IsOutcomeOf, IsAppliedRun, IsRefusal}
-use Rattle.upd_desk.specs.Holding.{AddsRun}
-use Rattle.upd_desk.specs.Journal.{Heard, run_of}
-use Rattle.upd_desk.specs.Made.{IsMade, LeadTo, looked_at}
-use Rattle.upd_desk.specs.Outcomes.{Compiled, compiled, outcome, outcome_by}
+use Rattle.upd_desk.specs.Compiling.{IsOutcomeOf}
 use Rattle.upd_desk.proofs.RefusedLemmas.{least_refused}
 use Rattle.upd_desk.proofs.StoreLemmas.{commits_run}
 

@@ -9,6 +9,7 @@ mod AlikeLemmas
 mod AnswerLemmas
 mod StoreLemmas
 pub mod ArrivesLemmas
+pub mod Common
 mod RunAllLemmas
 mod SettlesLemmas
 mod RefusedLemmas

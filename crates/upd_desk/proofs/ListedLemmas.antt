@@ -1,15 +1,8 @@
 -- What is listed of a part of a library is listed of the whole.
-use Rattle.std.proofs.Common.{◌≡◌, ℕ, false, not, List, [], ◌∷◌, Some, refl, sym, ap, ◌∙◌, subst}
+use Rattle.upd_desk.proofs.Common.{◌≡◌, ℕ, false, not, List, [], ◌∷◌, Some, refl, sym, ap, ◌∙◌, subst, CardRef, is_among, LibraryView, part_of, IsSound}
+use Rattle.upd_desk.proofs.Common.{card_listing, deck_listing, decks_with, is_left_out, part_of_others}
 use Rattle.std.proofs.lemmas.Option.{same_Some}
-use Rattle.upd_text.specs.declared.card_ref.CardRef.{CardRef}
-use Rattle.upd_core.specs.Edits.{is_among}
-use Rattle.upd_core.specs.Library.{LibraryView, deck_of}
-use Rattle.upd_core.specs.Parts.{part_of}
-use Rattle.upd_core.specs.Sound.{IsSound}
-use Rattle.upd_compile.specs.Listings.{card_listing, deck_listing}
-use Rattle.upd_row_store.specs.Asked.{decks_with}
-use Rattle.upd_partial.specs.Needless.{is_left_out}
-use Rattle.upd_partial.proofs.NeedLemmas.{part_of_others}
+use Rattle.upd_core.specs.Library.{deck_of}
 use Rattle.upd_partial.proofs.NeededLemmas.{card_kept}
 use Rattle.upd_partial.proofs.PartListingLemmas.{card_listed_by_part, deck_listed_by_part}
 use Rattle.upd_desk.proofs.StandingLemmas.{among_own}

@@ -1,29 +1,17 @@
 -- What is loaded for a run is the part with the decks that it needs, and no more decks are read.
-use Rattle.std.proofs.Common.{◌≡◌, ℕ, ◌+◌, ◌≤◌, ◌<◌, Bool, true, false, not, ◌&&◌, if◌then◌else◌, List, [], ◌∷◌, length, map, Option, Some, None, Ok}
-use Rattle.std.proofs.Common.{refl, sym, ap, ◌∙◌, subst, arith}
-use Rattle.std.proofs.lemmas.Bool.Decides.{nat_tests}
+use Rattle.upd_desk.proofs.Common.{◌≡◌, ℕ, ◌+◌, ◌≤◌, ◌<◌, Bool, true, false, not, ◌&&◌, if◌then◌else◌, List, [], ◌∷◌, length, map, Option, Some, None, Ok}
+use Rattle.upd_desk.proofs.Common.{refl, sym, ap, ◌∙◌, subst, arith, nat_tests, filter, list_any, option_map_or, CardRef, Place, is_among, DeckView}
+use Rattle.upd_desk.proofs.Common.{LibraryView, ref_of, part_of, IsSound, LineView, same_ref, decks_with, cards_named, decks_needed, is_yank_card, is_plain}
+use Rattle.upd_desk.proofs.Common.{decks_few, whole_part, reading, needed}
 use Rattle.std.specs.Prelude.{◌==◌}
-use Rattle.std.specs.List.{filter, list_any}
-use Rattle.std.specs.Option.{option_map_or}
-use Rattle.upd_text.specs.declared.card_ref.CardRef.{CardRef}
-use Rattle.upd_core.specs.declared.library.Place.{Place}
-use Rattle.upd_core.specs.Edits.{is_among}
 use Rattle.upd_core.specs.First.{index_from}
-use Rattle.upd_core.specs.Library.{DeckView, LibraryView, ident_of, is_card, place_in, ref_of}
-use Rattle.upd_core.specs.Parts.{part_of}
-use Rattle.upd_core.specs.Sound.{IsSound}
+use Rattle.upd_core.specs.Library.{ident_of, is_card, place_in}
 use Rattle.upd_core.proofs.ApartLemmas.{all_at, all_mapped}
 use Rattle.upd_core.proofs.FoundLemmas.{place_found}
-use Rattle.upd_deck.specs.Items.{LineView}
-use Rattle.upd_records.specs.Rows.{same_ref}
-use Rattle.upd_row_store.specs.Asked.{are_in_yanks, decks_with}
+use Rattle.upd_row_store.specs.Asked.{are_in_yanks}
 use Rattle.upd_row_store.specs.Keeping.{reads_with}
-use Rattle.upd_partial.specs.Needed.{AreAlike, cards_named, decks_needed, is_yank_card}
-use Rattle.upd_partial.specs.Needless.{is_plain}
-use Rattle.upd_partial.proofs.CountLemmas.{decks_few, whole_part}
+use Rattle.upd_partial.specs.Needed.{AreAlike}
 use Rattle.upd_partial.proofs.NeededLemmas.{none_yank}
-use Rattle.upd_deck.specs.Reading.{reading}
-use Rattle.upd_desk.specs.Needed.{needed}
 
 -- ---- whether a yank card is named is seen without any deck
 

@@ -1,13 +1,9 @@
 -- What is known after calls that only read, whether a value is reached or memory runs out for it.
-use Rattle.std.specs.Result.{IsErrAnd}
-use Rattle.std.proofs.Common.{◌≡◌, Result, Ok, Err, IsOkUnless, OnOk, ap, sym, ◌∙◌}
-use Rattle.upd_text.specs.declared.fault.Fault.{Fault}
-use Rattle.upd_text.specs.declared.fault.FaultKind.TheVariants.{NoMemory}
-use Rattle.upd_text.specs.Faults.{fault_at}
-use Rattle.upd_row_store.specs.declared.meaning.Meaning.{Ghosts}
-use Rattle.upd_row_store.specs.Keeping.{Keeps, failures_with}
-use Rattle.upd_row_store.proofs.KeepingLemmas.{lost_for_memory, memory_is_lost}
-use Rattle.upd_row_store.proofs.StoreLemmas.{keeps_keeps, memory_counts}
+use Rattle.upd_desk.proofs.Common.{IsErrAnd, ◌≡◌, Result, Ok, Err, OnOk, ap, sym, ◌∙◌, Fault, NoMemory, fault_at, Ghosts, Keeps, memory_is_lost, keeps_keeps}
+use Rattle.std.proofs.Common.{IsOkUnless}
+use Rattle.upd_row_store.specs.Keeping.{failures_with}
+use Rattle.upd_row_store.proofs.KeepingLemmas.{lost_for_memory}
+use Rattle.upd_row_store.proofs.StoreLemmas.{memory_counts}
 use Rattle.upd_desk.specs.Holding.{OnlyReads}
 
 pub on_ok : {A E P : Type 0} (result : Result A E) → P → OnOk result P

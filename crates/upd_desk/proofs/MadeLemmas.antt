@@ -1,24 +1,12 @@
 -- The library after each journal is as runs make it, and what is accepted goes through the admission checks and three steps.
-use Rattle.std.proofs.Common.{◌≡◌, ℕ, Bool, true, false, not, List, [], ◌∷◌, Option, Some, None, Result, Ok, Err, refl}
-use Rattle.upd_text.specs.declared.fault.Fault.{Fault}
-use Rattle.upd_text.specs.declared.fault.FaultKind.{FaultKind}
+use Rattle.upd_desk.proofs.Common.{◌≡◌, ℕ, Bool, true, false, not, List, [], ◌∷◌, Option, Some, None, Result, Ok, Err, refl, Fault, FaultKind, at_line, need}
+use Rattle.upd_desk.proofs.Common.{refuse_if, LibraryView, empty, LineView, reading, applied, Mode, compile_file_of, mode_named, run_sound, run_whole}
+use Rattle.upd_desk.proofs.Common.{run_within, is_run_number, is_site, ArrivalView, check_arrival, check_key, Heard, Journal, distinct, made_by, outcome_of}
+use Rattle.upd_desk.proofs.Common.{library_after, IsMade, Compiled, compiled, outcome, outcome_by}
 use Rattle.upd_text.specs.declared.fault.FaultKind.TheVariants as fault
-use Rattle.upd_text.specs.Outcome.{at_line, need, refuse_if}
-use Rattle.upd_core.specs.Library.{LibraryView, empty}
-use Rattle.upd_deck.specs.Items.{LineView}
-use Rattle.upd_deck.specs.Reading.{reading}
-use Rattle.upd_apply.specs.Applying.{applied}
-use Rattle.upd_compile.specs.declared.mode.Mode.{Mode}
-use Rattle.upd_compile.specs.File.{compile_file_of}
-use Rattle.upd_compile.specs.Modes.{mode_named}
 use Rattle.upd_laws.proofs.ReadRunLemmas.{empty_made, run_made}
 use Rattle.upd_apply.proofs.BindLemmas.{bind_ok, holds_of}
-use Rattle.upd_laws.proofs.SoundRunLemmas.{empty_sound, run_sound, run_whole, run_within}
-use Rattle.upd_text.specs.Keys.{is_run_number, is_site}
-use Rattle.upd_desk.specs.Arrivals.{ArrivalView, check_arrival, check_key}
-use Rattle.upd_desk.specs.Journal.{Heard, Journal, distinct, made_by, outcome_of, library_after}
-use Rattle.upd_desk.specs.Made.{IsMade}
-use Rattle.upd_desk.specs.Outcomes.{Compiled, compiled, outcome, outcome_by}
+use Rattle.upd_laws.proofs.SoundRunLemmas.{empty_sound}
 
 -- ---- a run that is accepted
 

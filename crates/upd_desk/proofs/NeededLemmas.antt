@@ -1,44 +1,29 @@
 -- A run that was applied to the decks which it needs has been applied to the whole library.
-use Rattle.std.proofs.Common.{◌≡◌, ℕ, ◌<◌, ◌^◌, Bool, true, false, not, ◌&&◌, if◌then◌else◌, List, length, map, Result, Ok, Err, inl}
-use Rattle.std.proofs.Common.{refl, ap, sym, ◌∙◌, subst}
+use Rattle.upd_desk.proofs.Common.{◌≡◌, ℕ, ◌<◌, ◌^◌, Bool, true, false, not, ◌&&◌, if◌then◌else◌, List, length, map, Result, Ok, Err, inl, refl, ap, sym, ◌∙◌}
+use Rattle.upd_desk.proofs.Common.{subst, list_any, AllByRecursion, Fault, actives_of, is_among, LibraryView, part, part_of, IsSound, ChangeView, change_view}
+use Rattle.upd_desk.proofs.Common.{done_all, Rows, ShowsStates, LineView, Reached, applied, touched, decks_with, run_goes, run_sound, run_whole, run_within}
+use Rattle.upd_desk.proofs.Common.{affected, IsEnough, cards_named, decks_needed, is_yank_card, is_plain, is_left_out, whole_part, part_of_others, AppliedRun}
+use Rattle.upd_desk.proofs.Common.{IsAppliedRun, IsMade}
 use Rattle.std.specs.Prelude.{◌==◌}
-use Rattle.std.specs.List.{list_any, AllByRecursion}
-use Rattle.upd_text.specs.declared.fault.Fault.{Fault}
-use Rattle.upd_core.specs.Actives.{actives_of}
-use Rattle.upd_core.specs.Edits.{is_among}
-use Rattle.upd_core.specs.Library.{LibraryView}
-use Rattle.upd_core.specs.Parts.{part, part_of}
-use Rattle.upd_core.specs.Sound.{AreApart, IsSound, IsWhole, all_cards, key_of}
-use Rattle.upd_records.specs.Changes.{ChangeView, change_view, done_all}
-use Rattle.upd_records.specs.Rows.{Rows, ShowsStates}
+use Rattle.upd_core.specs.Sound.{AreApart, IsWhole, all_cards, key_of}
 use Rattle.upd_diff.specs.States.{TakeGone}
 use Rattle.upd_diff.specs.RowChanges.{RowChanges}
 use Rattle.upd_diff.proofs.ShownRowsLemmas.{taken_by_row_changes}
-use Rattle.upd_deck.specs.Items.{LineView}
-use Rattle.upd_apply.specs.Applying.{Reached, applied, touched}
-use Rattle.upd_row_store.specs.Asked.{decks_with}
-use Rattle.upd_laws.proofs.SoundRunLemmas.{run_goes, run_sound, run_whole, run_within}
-use Rattle.upd_yank.specs.Affected.{affected}
-use Rattle.upd_yank.specs.Enough.{IsEnough}
 use Rattle.upd_yank.specs.Renewed.{IsAsBefore, renewed}
 use Rattle.upd_yank.specs.Right.{CacheView, IsRight, IsRunBetween}
 use Rattle.upd_yank.proofs.EnoughLemmas.{part_of_none}
 use Rattle.upd_yank.proofs.RenewLemmas.{renewed_is}
-use Rattle.upd_partial.specs.Needed.{cards_named, decks_needed, is_yank_card}
-use Rattle.upd_partial.specs.Needless.{DoesWithout, IsOnWhole, NamesNone, is_plain, is_left_out, reached_in_part}
+use Rattle.upd_partial.specs.Needless.{DoesWithout, IsOnWhole, NamesNone, reached_in_part}
 use Rattle.upd_partial.proofs.AloneLemmas.{affected_in, enough_alone}
 use Rattle.upd_partial.proofs.AppliedLemmas.{applied_same}
-use Rattle.upd_partial.proofs.CountLemmas.{none_left_out, whole_part}
+use Rattle.upd_partial.proofs.CountLemmas.{none_left_out}
 use Rattle.upd_partial.proofs.LeftLemmas.{no_yank_named}
-use Rattle.upd_partial.proofs.NeedLemmas.{others_listed, part_of_others}
+use Rattle.upd_partial.proofs.NeedLemmas.{others_listed}
 use Rattle.upd_partial.proofs.NeededLemmas.{others_unnamed}
 use Rattle.upd_partial.proofs.PartLeadLemmas.{part_leads}
 use Rattle.upd_partial.proofs.PartSoundLemmas.{part_sound}
 use Rattle.upd_partial.proofs.RenewLemmas.{renewed_alone}
 use Rattle.upd_partial.proofs.WholeLemmas.{on_whole}
-use Rattle.upd_desk.specs.declared.outcome.AppliedRun.{AppliedRun}
-use Rattle.upd_desk.specs.Compiling.{IsAppliedRun}
-use Rattle.upd_desk.specs.Made.{IsMade}
 use Rattle.upd_desk.proofs.LeadLemmas.{few_yanks}
 
 abbrev here_of : AppliedRun → Reached

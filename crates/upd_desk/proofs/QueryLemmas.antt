@@ -1,33 +1,21 @@
 -- What a query of a desk tells.
-use Rattle.std.proofs.Common.{◌≡◌, ℕ, nat_lt, Bool, true, false, ◌⊎◌, if◌then◌else◌, List, [], ◌∷◌, ◌++◌, take, Option, Some, None, Result, Ok, Err}
-use Rattle.std.proofs.Common.{inl, inr, refl, ap, sym, ◌∙◌, subst}
+use Rattle.upd_desk.proofs.Common.{◌≡◌, ℕ, nat_lt, Bool, true, false, ◌⊎◌, if◌then◌else◌, List, [], ◌∷◌, ◌++◌, take, Option, Some, None, Result, Ok, Err, inl}
+use Rattle.upd_desk.proofs.Common.{inr, refl, ap, sym, ◌∙◌, subst, flat_map, Fault, FaultKind, NoMemory, CardRef, fault_at, ◌>>=◌, FailsAt, FailsOf, at_line}
+use Rattle.upd_desk.proofs.Common.{need, MAX_DEPTH, ActivesView, CardView, LibraryView, place_of, part_of, live_targets, Place, FileView, file_of}
+use Rattle.upd_desk.proofs.Common.{card_listing, deck_listing, walk, Mode, Rows, Shows, ShowsStates, Ghosts, IsLost, Keeps, OfMemory, Journal, library_after}
+use Rattle.upd_desk.proofs.Common.{IsMade, HoldsIn, is_lost, listing}
 use Rattle.std.specs.Prelude.{count_by}
-use Rattle.std.specs.List.{enumerate_from, filter_map, flat_map}
-use Rattle.upd_text.specs.declared.fault.Fault.{Fault}
-use Rattle.upd_text.specs.declared.fault.FaultKind.{FaultKind}
-use Rattle.upd_text.specs.declared.fault.FaultKind.TheVariants.{CallDepth, CallUnknown, CardUnknown, CompileLong, DeckUnknown, NoMemory, Store}
-use Rattle.upd_text.specs.declared.card_ref.CardRef.{CardRef}
-use Rattle.upd_text.specs.Faults.{fault_at}
-use Rattle.upd_text.specs.Outcome.{◌>>=◌, FailsAt, FailsOf, at_line, need}
-use Rattle.upd_text.specs.declared.limits.TheConstants.{MAX_COMPILE_LINES, MAX_CALLS, MAX_DEPTH}
-use Rattle.upd_core.specs.Actives.{ActivesView}
-use Rattle.upd_core.specs.Library.{CardView, LibraryView, card_in, cards_of, place_of}
-use Rattle.upd_core.specs.Parts.{part_of}
-use Rattle.upd_core.specs.Status.{live_targets}
-use Rattle.upd_core.specs.declared.library.Place.{Place}
+use Rattle.std.specs.List.{enumerate_from, filter_map}
+use Rattle.upd_text.specs.declared.fault.FaultKind.TheVariants.{CallDepth, CallUnknown, CardUnknown, CompileLong, DeckUnknown, Store}
+use Rattle.upd_text.specs.declared.limits.TheConstants.{MAX_COMPILE_LINES, MAX_CALLS}
+use Rattle.upd_core.specs.Library.{card_in, cards_of}
 use Rattle.upd_compile.specs.Chosen.{chosen}
-use Rattle.upd_compile.specs.File.{FileView, event_fault, event_line, file_of, is_follow, is_line, walk_faults}
-use Rattle.upd_compile.specs.Listings.{card_lines, card_listing, deck_heading, deck_line, deck_listing, listed_deck}
-use Rattle.upd_compile.specs.Walk.{WalkEvent, Line, Follow, Depth, Unknown, walk}
-use Rattle.upd_compile.specs.declared.mode.Mode.{Mode}
-use Rattle.upd_records.specs.Rows.{Rows, Shows, ShowsStates}
-use Rattle.upd_row_store.specs.declared.meaning.Meaning.{Ghosts}
-use Rattle.upd_row_store.specs.Keeping.{IsLost, Keeps, OfMemory}
-use Rattle.upd_desk.specs.Journal.{Journal, library_after}
-use Rattle.upd_desk.specs.Made.{IsMade}
-use Rattle.upd_desk.specs.Holding.{HoldsIn, IsOwed, Tells, is_lost}
+use Rattle.upd_compile.specs.File.{event_fault, event_line, is_follow, is_line, walk_faults}
+use Rattle.upd_compile.specs.Listings.{card_lines, deck_heading, deck_line, listed_deck}
+use Rattle.upd_compile.specs.Walk.{WalkEvent, Line, Follow, Depth, Unknown}
+use Rattle.upd_desk.specs.Holding.{IsOwed, Tells}
 use Rattle.upd_desk.specs.Outcomes.{IsFileFault}
-use Rattle.upd_desk.specs.Queries.{IsMiss, decks_asked, listing}
+use Rattle.upd_desk.specs.Queries.{IsMiss, decks_asked}
 use Rattle.upd_desk.specs.declared.library_queries.Query.{Query}
 use Rattle.upd_desk.specs.declared.library_queries.Query.TheVariants.{Deck, Card, Idents, Yanks}
 use Rattle.upd_desk.proofs.MadeLemmas.{library_made}
@@ -183,10 +171,3 @@ listing_keeps (Deck name) l f is = ap (λ g. is_lost g.kind) (deck_met name l f 
 listing_keeps (Card card) l f is = ap (λ g. is_lost g.kind) (card_met card l f is)
 listing_keeps Idents l f is = absurd (cc)
 listing_keeps Yanks l f is = absurd (cc)
-
--- a listing that needs no deck is the same of the directory and `YANK$$$`
-pub head_listed : (query : Query) (l head : LibraryView) → decks_asked query ≡ 0 → head ≡ part_of [] l → listing query head ≡ listing query l
-head_listed (Deck name) l head none is = absurd (cc)
-head_listed (Card card) l head none is = absurd (cc)
-head_listed Idents l head none is = ap (λ (m : LibraryView). listing Idents m) is
-head_listed Yanks l head none is = ap (λ (m : LibraryView). listing Yanks m) is

@@ -1,23 +1,13 @@
 -- A run that is refused: its fault is the defined one, and no card has another status.
-use Rattle.std.proofs.Common.{◌≡◌, ℕ, ◌≤◌, ◌⊎◌, inl, inr, Bool, true, false, List, [], ◌∷◌, length, Some, Result, Ok, Err, IfErr, refl, ap, sym, ◌∙◌, subst, arith}
-use Rattle.std.specs.List.{filter, AllByRecursion}
-use Rattle.std.specs.Result.{IsErrAnd}
-use Rattle.upd_text.specs.declared.fault.Fault.{Fault}
-use Rattle.upd_text.specs.declared.fault.FaultKind.{FaultKind}
+use Rattle.upd_desk.proofs.Common.{◌≡◌, ℕ, ◌≤◌, ◌⊎◌, inl, inr, Bool, true, false, List, [], ◌∷◌, length, Some, Result, Ok, Err, IfErr, refl, ap, sym, ◌∙◌}
+use Rattle.upd_desk.proofs.Common.{subst, arith, filter, AllByRecursion, IsErrAnd, Fault, FaultKind, fault_at, FailsAt, FailsOf, CountedCardView}
+use Rattle.upd_desk.proofs.Common.{counted_cards, LibraryView, IsSound, live_targets, Mode, IsLost, OfMemory, altered, ArrivalView, compiled, outcome}
+use Rattle.upd_desk.proofs.Common.{outcome_by}
 use Rattle.upd_text.specs.declared.fault.FaultKind.TheVariants as kinds
-use Rattle.upd_text.specs.Faults.{fault_at}
-use Rattle.upd_text.specs.Outcome.{FailsAt, FailsOf}
-use Rattle.upd_core.specs.Counted.{CountedCardView, counted_cards}
-use Rattle.upd_core.specs.Library.{LibraryView}
-use Rattle.upd_core.specs.Sound.{IsSound}
-use Rattle.upd_core.specs.Status.{is_active, live_targets}
-use Rattle.upd_compile.specs.declared.mode.Mode.{Mode}
-use Rattle.upd_row_store.specs.Keeping.{IsLost, OfMemory}
-use Rattle.upd_yank.specs.Affected.{altered, is_other, status_before}
+use Rattle.upd_core.specs.Status.{is_active}
+use Rattle.upd_yank.specs.Affected.{is_other, status_before}
 use Rattle.upd_yank.proofs.KeptLemmas.{before_at}
 use Rattle.upd_yank.proofs.StateLemmas.{all_counted}
-use Rattle.upd_desk.specs.Arrivals.{ArrivalView}
-use Rattle.upd_desk.specs.Outcomes.{compiled, outcome, outcome_by}
 
 -- what an early return passes on is the error that was met
 pub error_is : {T E : Type 0} (result : Result T E) (error : E) → IsErrAnd result (λ e. e ≡ error) → result ≡ Err error
@@ -70,10 +60,6 @@ fails_is fault defined other fails = by (fails_by fault defined fails)
     by : ((fault.kind ≡ kinds.NoMemory) × (fault.at ≡ 0)) ⊎ (defined ≡ Err fault) → defined ≡ Err fault
     by (inl lost) = absurd (other lost.0)
     by (inr met) = met
-
--- out of memory is at no line
-pub memory_at_zero : {A : Type 0} (f : Fault) (defined : Result A Fault) → FailsAt f defined → f.kind ≡ kinds.NoMemory → f.at ≡ 0
-memory_at_zero f defined fails is = subst (λ k. FailsOf k f defined) is fails
 
 -- out of memory says nothing about what is defined
 pub fails_memory : {X A : Type 0} (result : Result X Fault) (defined : Result A Fault)

@@ -1,21 +1,10 @@
 -- What is kept stays kept, whatever comes between, as long as it isn't settled.
-use Rattle.std.proofs.Common.{◌≡◌, ℕ, ◌≤◌, ◌==◌, nat_lt, nat_le, max, Bool, true, false, not, ◌&&◌, ◌||◌, if◌then◌else◌, List, [], ◌∷◌, ◌++◌, Option, Some}
-use Rattle.std.proofs.Common.{None, Result, Ok, Err, refl, sym, ◌∙◌, rules, arith}
-use Rattle.std.specs.List.{list_any, find}
-use Rattle.std.specs.Str.{bytes_eq}
-use Rattle.std.proofs.lemmas.Bool.Decides.{nat_tests}
+use Rattle.upd_desk.proofs.Common.{◌≡◌, ℕ, ◌≤◌, ◌==◌, nat_lt, nat_le, max, Bool, true, false, not, ◌&&◌, ◌||◌, if◌then◌else◌, List, [], ◌∷◌, ◌++◌, Option}
+use Rattle.upd_desk.proofs.Common.{Some, None, Result, Ok, Err, refl, sym, ◌∙◌, rules, arith, list_any, find, bytes_eq, nat_tests, Fault, LibraryView}
+use Rattle.upd_desk.proofs.Common.{RunView, Mode, is_run, is_same_bytes, same_key, ArrivalView, check_arrival, mode_number, Came, Carried, Settled, Heard}
+use Rattle.upd_desk.proofs.Common.{Journal, mark, has_key, with_arrival, distinct, outcome_of, made_by, library_after, run_of, answered, kept, reply_to}
+use Rattle.upd_desk.proofs.Common.{answer, ReplyView, outcome}
 use Rattle.std.proofs.Math.Nat.{le-max_right}
-use Rattle.upd_text.specs.declared.fault.Fault.{Fault}
-use Rattle.upd_core.specs.Library.{LibraryView}
-use Rattle.upd_records.specs.Rows.{RunView}
-use Rattle.upd_compile.specs.declared.mode.Mode.{Mode}
-use Rattle.upd_row_store.specs.Tables.{is_run}
-use Rattle.upd_row_store.proofs.TableLemmas.{is_same_bytes, same_key}
-use Rattle.upd_desk.specs.Arrivals.{ArrivalView, check_arrival, mode_number}
-use Rattle.upd_desk.specs.Journal.{Came, Carried, Settled, Heard, Journal, mark, has_key, with_arrival, distinct}
-use Rattle.upd_desk.specs.Journal.{outcome_of, made_by, library_after, run_of, answered}
-use Rattle.upd_desk.specs.Journal.{kept, reply_to, answer}
-use Rattle.upd_desk.specs.Outcomes.{ReplyView, outcome}
 use Rattle.upd_desk.proofs.JournalLemmas.{unheard_unadmitted, unheard_settled, unheard_known, heard_new, answered_any}
 use Rattle.upd_desk.proofs.KeptLemmas.{none_found, not_below}
 

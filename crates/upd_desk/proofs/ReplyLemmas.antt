@@ -1,20 +1,18 @@
 -- The text of a reply's value is the reply's text.
-use Rattle.std.proofs.Common.{◌≡◌, ℕ, ◌<◌, List, [], ◌∷◌, ◌++◌, Bool, true, false, ◌&&◌, IsTrue, refl, ap, sym, codes, arith, append_assoc}
-use Rattle.std.specs.List.{flat_map, AllByRecursion}
-use Rattle.std.specs.Str.{IsAscii, IsUtf8}
+use Rattle.upd_desk.proofs.Common.{◌≡◌, ℕ, ◌<◌, List, [], ◌∷◌, ◌++◌, Bool, true, false, ◌&&◌, IsTrue, refl, ap, sym, codes, arith, flat_map, AllByRecursion}
+use Rattle.upd_desk.proofs.Common.{IsUtf8, and_parts, nat_tests, compact_text, Fault, FaultKind, is_shown, AreShown, accepted_text, refused_text}
+use Rattle.upd_desk.proofs.Common.{accepted_value, refused_value, fault_value}
+use Rattle.std.proofs.Common.{append_assoc}
+use Rattle.std.specs.Str.{IsAscii}
 use Rattle.std.proofs.lemmas.Str.{IsUtf8-from_ascii}
 use Rattle.std.proofs.lemmas.Str.Ascii.{IsAscii-nil, IsAscii-cons}
-use Rattle.std.proofs.lemmas.Bool.{and_parts}
-use Rattle.std.proofs.lemmas.Bool.Decides.{nat_tests}
 use Rattle.json.specs.Print.{escape, escape_byte}
-use Rattle.serde_json.specs.Written.{compact_text, items_text, items_have_float}
+use Rattle.serde_json.specs.Written.{items_text, items_have_float}
 use Rattle.serde_json.proofs.OnLiterals.{serde_json_on_literals}
-use Rattle.upd_text.specs.declared.fault.Fault.{Fault}
-use Rattle.upd_text.specs.declared.fault.FaultKind.{FaultKind}
 use Rattle.upd_text.specs.declared.fault.FaultKind.TheVariants as kind
 use Rattle.upd_text.specs.Faults.{fault_name}
-use Rattle.upd_desk.specs.ReplyTexts.{is_shown, AreShown, escaped, listed, accepted_text, refused_text, fault_text}
-use Rattle.upd_desk.specs.ReplyValues.{items, accepted_value, refused_value, fault_value}
+use Rattle.upd_desk.specs.ReplyTexts.{escaped, listed, fault_text}
+use Rattle.upd_desk.specs.ReplyValues.{items}
 
 -- a byte that can stand in a reply is escaped as JSON's writer does it
 escape_is : (b : ℕ) → IsTrue (is_shown b) → escape_byte b ≡ escaped b

@@ -1,17 +1,12 @@
 -- Arrivals one after the other: one more at the end.
-use Rattle.std.proofs.Common.{◌≡◌, ℕ, ◌+◌, ◌≤◌, false, List, [], ◌∷◌, ◌++◌, length, Result, Ok, Err, IfErr, IfOk, OnErr, OnOk, refl, sym, ◌∙◌, subst, rules, arith}
-use Rattle.std.proofs.lemmas.Bool.{false≢true}
-use Rattle.upd_text.specs.declared.fault.Fault.{Fault}
-use Rattle.upd_row_store.specs.declared.meaning.Meaning.{Ghosts}
-use Rattle.upd_row_store.specs.Keeping.{failures_after}
-use Rattle.upd_row_store.proofs.StoreLemmas.{later_still, later_twice}
-use Rattle.upd_desk.specs.Arrivals.{ArrivalView}
-use Rattle.upd_desk.specs.Journal.{Event, Journal}
-use Rattle.upd_desk.specs.Outcomes.{ReplyView}
-use Rattle.upd_desk.specs.Holding.{AreAnswers, AreArrivalFaults, AreIdle, RunAll, Arrives, EndsInReply, HoldsIn, IsAnswer, IsArrivalFault, IsIdle}
-use Rattle.upd_desk.specs.Holding.{IsLeft, IsNoneLost, IsWork, LooksAt, ReadsNeeded, ReadsNeededByAll, is_lost, needed_by_all}
-use Rattle.upd_desk.specs.Holding.{after, after_all, failures_after_all, in_hand_after, in_hand_after_all, work_after, work_after_all}
-use Rattle.upd_desk.specs.Needed.{needed_by}
+use Rattle.upd_desk.proofs.Common.{◌≡◌, ℕ, ◌+◌, ◌≤◌, false, List, [], ◌∷◌, ◌++◌, length, Result, Ok, Err, IfErr, OnOk, refl, sym, ◌∙◌, subst, rules, arith}
+use Rattle.upd_desk.proofs.Common.{false≢true, Fault, Ghosts, failures_after, later_twice, ArrivalView, Event, Journal, ReplyView, AreArrivalFaults, RunAll}
+use Rattle.upd_desk.proofs.Common.{Arrives, EndsInReply, HoldsIn, IsIdle, IsLeft, IsWork, ReadsNeededByAll, is_lost, failures_after_all, work_after_all}
+use Rattle.upd_desk.proofs.Common.{needed_by}
+use Rattle.std.proofs.Common.{IfOk, OnErr}
+use Rattle.upd_row_store.proofs.StoreLemmas.{later_still}
+use Rattle.upd_desk.specs.Holding.{AreAnswers, AreIdle, IsAnswer, IsArrivalFault, IsNoneLost, LooksAt, ReadsNeeded, needed_by_all}
+use Rattle.upd_desk.specs.Holding.{after, after_all, in_hand_after, in_hand_after_all, work_after}
 use Rattle.upd_desk.proofs.ArrivesLemmas.{idle_there}
 
 after_more : (j : Journal) (list : List ArrivalView) (results : List (Result ReplyView Fault)) (a : ArrivalView) (result : Result ReplyView Fault)

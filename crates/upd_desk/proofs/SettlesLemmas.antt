@@ -1,22 +1,11 @@
 -- What each answer to a settlement makes of a desk over a store.
-use Rattle.std.proofs.Common.{◌≡◌, ℕ, ◌<◌, ◌≤◌, nat_le, max, Bool, true, false, not, ◌⊎◌, if◌then◌else◌, List, ◌∷◌, Ok, Err}
-use Rattle.std.proofs.Common.{inl, inr, refl, ap, sym, ◌∙◌, subst, rules, arith}
-use Rattle.std.specs.Str.{bytes_eq}
-use Rattle.std.proofs.lemmas.Bool.{false≢true}
-use Rattle.std.proofs.lemmas.Bool.Decides.{nat_tests}
-use Rattle.upd_text.specs.declared.fault.Fault.{Fault}
+use Rattle.upd_desk.proofs.Common.{◌≡◌, ℕ, ◌<◌, ◌≤◌, nat_le, max, Bool, true, false, not, ◌⊎◌, if◌then◌else◌, List, ◌∷◌, Ok, Err, inl, inr, refl, ap, sym}
+use Rattle.upd_desk.proofs.Common.{◌∙◌, subst, rules, arith, bytes_eq, false≢true, nat_tests, Fault, ◌>>=◌, at_line, refuse_if, Rows, Ghosts, IsLost, Keeps}
+use Rattle.upd_desk.proofs.Common.{Tries, mark_at, settled_to, later_twice, max_right, same_bytes, is_run_number, is_site, check_key, Alike, Event, Settled}
+use Rattle.upd_desk.proofs.Common.{Journal, mark, library_after, Guards, Holds, HoldsIn, IsHeld, IsLeft, is_lost}
 use Rattle.upd_text.specs.declared.fault.FaultKind.TheVariants as fault
-use Rattle.upd_text.specs.Outcome.{◌>>=◌, at_line, refuse_if}
-use Rattle.upd_records.specs.Rows.{Rows}
-use Rattle.upd_row_store.specs.declared.meaning.Meaning.{Ghosts}
-use Rattle.upd_row_store.specs.Keeping.{IsLost, Keeps, Tries}
-use Rattle.upd_row_store.specs.Tables.{mark_at, settled_to}
-use Rattle.upd_row_store.proofs.StoreLemmas.{later_twice}
-use Rattle.upd_row_store.proofs.TableLemmas.{max_right, same_bytes, shows_settled, states_settled}
-use Rattle.upd_text.specs.Keys.{is_run_number, is_site}
-use Rattle.upd_desk.specs.Arrivals.{check_key}
-use Rattle.upd_desk.specs.Journal.{Alike, Event, Settled, Journal, mark, library_after}
-use Rattle.upd_desk.specs.Holding.{Guards, Holds, HoldsIn, IsHeld, IsIdleSettlement, IsLeft, Settles, is_lost, mark_after}
+use Rattle.upd_row_store.proofs.TableLemmas.{shows_settled, states_settled}
+use Rattle.upd_desk.specs.Holding.{IsIdleSettlement, Settles, mark_after}
 use Rattle.upd_desk.proofs.ArrivesLemmas.{LeavesTables, holds_in_alike, left_held, left_here, left_more, lost_kind}
 use Rattle.upd_desk.proofs.KeptLemmas.{kept_settled, mark_settled}
 

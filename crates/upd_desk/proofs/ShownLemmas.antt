@@ -1,26 +1,16 @@
 -- All texts of a reply are plain: sites, words for modes, names of idents and compile files.
-use Rattle.std.proofs.Common.{◌≡◌, ℕ, ◌==◌, nat_le, length, Bool, true, false, ◌&&◌, ◌||◌, IsTrue, List, [], ◌∷◌, map, codes, Some, Ok, refl}
-use Rattle.std.proofs.Common.{ap, sym, ◌∙◌, subst, arith}
-use Rattle.std.specs.List.{list_all, AllByRecursion}
-use Rattle.std.specs.Str.{bytes_eq}
-use Rattle.std.proofs.lemmas.Bool.Decides.{nat_tests}
+use Rattle.upd_desk.proofs.Common.{◌≡◌, ℕ, ◌==◌, nat_le, length, Bool, true, false, ◌&&◌, ◌||◌, IsTrue, List, [], ◌∷◌, map, codes, Some, Ok, refl, ap, sym}
+use Rattle.upd_desk.proofs.Common.{◌∙◌, subst, arith, AllByRecursion, bytes_eq, nat_tests, LibraryView, name_of, Mode, FileView, compile_file_of, mode_named}
+use Rattle.upd_desk.proofs.Common.{and_right, AreShown, accepted_text, is_shown, is_site, ArrivalView, check_arrival, IsMade, Compiled, compiled, same_bytes}
+use Rattle.std.specs.List.{list_all}
 use Rattle.upd_text.specs.Names.{is_name}
 use Rattle.upd_core.specs.declared.ident.Ident.{Ident}
-use Rattle.upd_core.specs.Library.{LibraryView, name_of}
 use Rattle.upd_deck.specs.Reading.{is_allowed}
 use Rattle.upd_deck.proofs.GrammarNames.{all_of}
-use Rattle.upd_compile.specs.declared.mode.Mode.{Mode}
-use Rattle.upd_compile.specs.File.{FileView, compile_file_of}
-use Rattle.upd_compile.specs.Modes.{mode_named}
 use Rattle.upd_laws.specs.ReadRuns.{HasLineTexts}
 use Rattle.upd_laws.proofs.CompileLineLemmas.{file_plain, name_of_plain}
-use Rattle.upd_laws.proofs.SoundListLemmas.{and_right, all_weaker}
-use Rattle.upd_desk.specs.ReplyTexts.{AreShown, accepted_text, is_shown}
-use Rattle.upd_text.specs.Keys.{is_site, is_site_byte}
-use Rattle.upd_desk.specs.Arrivals.{ArrivalView, check_arrival}
-use Rattle.upd_desk.specs.Made.{IsMade}
-use Rattle.upd_desk.specs.Outcomes.{Compiled, compiled}
-use Rattle.upd_row_store.proofs.TableLemmas.{same_bytes}
+use Rattle.upd_laws.proofs.SoundListLemmas.{all_weaker}
+use Rattle.upd_text.specs.Keys.{is_site_byte}
 use Rattle.upd_desk.proofs.MadeLemmas.{accepted, accepted_made, passed}
 
 pub site_shown : (site : List ℕ) → is_site site ≡ true → AreShown site

@@ -1,20 +1,12 @@
 -- A card that is in a deck is in no other.
-use Rattle.std.proofs.Common.{◌≡◌, ℕ, suc, ◌<◌, ◌≤◌, Bool, true, false, not, ◌&&◌, ◌||◌, List, []}
-use Rattle.std.proofs.Common.{◌∷◌, length, map, Option, Some, None, refl, sym, ap, ◌∙◌, subst, arith}
-use Rattle.std.proofs.lemmas.Bool.Decides.{nat_tests}
+use Rattle.upd_desk.proofs.Common.{◌≡◌, ℕ, suc, ◌<◌, ◌≤◌, Bool, true, false, not, ◌&&◌, ◌||◌, List, [], ◌∷◌, length, map, Option, Some, None, refl, sym, ap}
+use Rattle.upd_desk.proofs.Common.{◌∙◌, subst, arith, nat_tests, filter, CardRef, Place, is_among, CardView, DeckView, LibraryView, place_of, ref_of, IsSound}
+use Rattle.upd_desk.proofs.Common.{same_ref, same_ref_is, decks_with, is_asked, decks_few}
 use Rattle.std.specs.Prelude.{◌==◌, slice_get}
-use Rattle.std.specs.List.{filter}
-use Rattle.upd_text.specs.declared.card_ref.CardRef.{CardRef}
-use Rattle.upd_core.specs.declared.library.Place.{Place}
-use Rattle.upd_core.specs.Edits.{is_among}
-use Rattle.upd_core.specs.Library.{CardView, DeckView, LibraryView, all_decks, place_of, ref_of}
-use Rattle.upd_core.specs.Sound.{IsSound}
+use Rattle.upd_core.specs.Library.{all_decks}
 use Rattle.upd_core.proofs.ApartLemmas.{at_contained}
 use Rattle.upd_core.proofs.FoundLemmas.{place_at}
-use Rattle.upd_records.specs.Rows.{same_ref}
-use Rattle.upd_records.proofs.EqualLemmas.{same_ref_is}
-use Rattle.upd_row_store.specs.Asked.{decks_with, holds_one, is_asked}
-use Rattle.upd_partial.proofs.CountLemmas.{decks_few}
+use Rattle.upd_row_store.specs.Asked.{holds_one}
 use Rattle.upd_yank.proofs.FindLemmas.{any_at}
 
 -- a deck that holds the card is where it is found

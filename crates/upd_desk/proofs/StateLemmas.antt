@@ -1,27 +1,20 @@
 -- Statuses and counts that were read from tables for the cards of a part are those of this part of the library that the tables show.
-use Rattle.std.proofs.Common.{◌≡◌, ℕ, ◌==◌, Bool, true, false, ◌&&◌, if◌then◌else◌, List, [], ◌∷◌, ◌||◌, length, map, Option, Some, None, count_by}
-use Rattle.std.proofs.Common.{refl, ap, sym, ◌∙◌, arith}
+use Rattle.upd_desk.proofs.Common.{◌≡◌, ℕ, ◌==◌, Bool, true, false, ◌&&◌, if◌then◌else◌, List, [], ◌∷◌, ◌||◌, length, map, Option, Some, None, refl, ap, sym}
+use Rattle.upd_desk.proofs.Common.{◌∙◌, arith, filter, list_any, and_parts, nat_tests, CardRef, counted_cards, LibraryView, part, IsSound, Rows, ShowsStates}
+use Rattle.upd_desk.proofs.Common.{same_ref, same_ref_is, is_asked}
+use Rattle.std.proofs.Common.{count_by}
 use Rattle.std.specs.Cmp.{booleans_Decides}
-use Rattle.std.specs.List.{filter, list_any}
 use Rattle.std.proofs.Math.Bool.{beq}
-use Rattle.std.proofs.lemmas.Bool.{and_parts}
-use Rattle.std.proofs.lemmas.Bool.Decides.{nat_tests}
 use Rattle.std.proofs.lemmas.List.Sums.{length-filter}
-use Rattle.upd_text.specs.declared.card_ref.CardRef.{CardRef}
 use Rattle.upd_core.specs.declared.states.States.{States}
 use Rattle.upd_core.specs.declared.target.Target.{Target}
-use Rattle.upd_core.specs.Counted.{counted_cards}
-use Rattle.upd_core.specs.Library.{LibraryView}
-use Rattle.upd_core.specs.Parts.{part}
-use Rattle.upd_core.specs.Sound.{IsSound}
 use Rattle.upd_core.specs.Status.{status_of}
 use Rattle.upd_core.specs.TargetCounts.{live_count}
 use Rattle.upd_core.specs.Targets.{is_same}
 use Rattle.upd_core.proofs.CountedLemmas.{same_target, target_same}
-use Rattle.upd_records.specs.Rows.{IsSame, Rows, ShowsStates, StateRow, count_rows, same_ref, state_rows}
+use Rattle.upd_records.specs.Rows.{IsSame, StateRow, count_rows, state_rows}
 use Rattle.upd_records.proofs.CountLemmas.{count_filter}
-use Rattle.upd_records.proofs.EqualLemmas.{same_ref_is, same_ref_own}
-use Rattle.upd_row_store.specs.Asked.{is_asked}
+use Rattle.upd_records.proofs.EqualLemmas.{same_ref_own}
 use Rattle.upd_row_store.proofs.AskedLemmas.{filter_made}
 use Rattle.upd_row_store.specs.Tables.{AreReadOf, count_pair, state_pair}
 use Rattle.upd_partial.proofs.PartStatusLemmas.{status_in_part}

@@ -1,20 +1,7 @@
 -- What calls of a store, one after the other, make of what it keeps.
-use Rattle.std.proofs.Common.{◌⊎◌, List, None, inl, inr, subst}
-use Rattle.upd_records.specs.Rows.{RunView, Rows, Shows, ShowsStates}
-use Rattle.upd_records.specs.Changes.{ChangeView}
-use Rattle.upd_records.specs.Fits.{AllFit}
-use Rattle.upd_core.specs.Library.{LibraryView}
-use Rattle.upd_compile.specs.declared.mode.Mode.{Mode}
-use Rattle.upd_row_store.specs.declared.meaning.Meaning.{Ghosts}
-use Rattle.upd_row_store.specs.Keeping.{Keeps, Tries}
-use Rattle.upd_row_store.specs.Tables.{committed}
-use Rattle.upd_row_store.proofs.StoreLemmas.{later_twice}
+use Rattle.upd_desk.proofs.Common.{◌⊎◌, List, None, inl, inr, subst, RunView, Rows, Shows, ShowsStates, ChangeView, AllFit, LibraryView, Mode, Ghosts, Keeps}
+use Rattle.upd_desk.proofs.Common.{Tries, committed, later_twice, ArrivalView, run_of, IsMade, LeadTo, outcome, AddsRun, Becomes, TriesRun}
 use Rattle.upd_row_store.proofs.TableLemmas.{shows_committed, states_committed, runs_committed, marks_stay}
-use Rattle.upd_desk.specs.Arrivals.{ArrivalView}
-use Rattle.upd_desk.specs.Journal.{run_of}
-use Rattle.upd_desk.specs.Made.{IsMade, LeadTo}
-use Rattle.upd_desk.specs.Outcomes.{outcome}
-use Rattle.upd_desk.specs.Holding.{AddsRun, Becomes, TriesRun}
 
 -- a commit of changes that lead to the library of a new run adds that run
 pub commits_run : (mode : Mode) (a : ArrivalView) (l : LibraryView) (cs : List ChangeView) (rows : Rows)

@@ -1,20 +1,9 @@
 -- How many cards are looked at for an arrival, by what the tables hold.
-use Rattle.std.proofs.Common.{◌≡◌, ℕ, ◌+◌, ◌≤◌, nat_lt, true, List, ◌∷◌, length, Some, None, Ok}
-use Rattle.std.proofs.Common.{refl, ap, sym, ◌∙◌, subst, arith}
-use Rattle.upd_core.specs.Counted.{CountedCardView}
-use Rattle.upd_core.specs.Library.{LibraryView}
-use Rattle.upd_records.specs.Rows.{RunView, Rows, Shows, ShowsStates}
-use Rattle.upd_compile.specs.declared.mode.Mode.{Mode}
-use Rattle.upd_row_store.specs.declared.meaning.Meaning.{Ghosts}
-use Rattle.upd_row_store.specs.Keeping.{Keeps}
-use Rattle.upd_row_store.specs.Tables.{run_at}
-use Rattle.upd_yank.specs.Affected.{altered}
-use Rattle.upd_desk.specs.Arrivals.{ArrivalView, check_arrival}
-use Rattle.upd_desk.specs.Journal.{Came, Journal, distinct, kept, made_by, mark, library_after}
-use Rattle.upd_desk.specs.Made.{IsMade, looked_at, work_of}
-use Rattle.upd_desk.specs.Needed.{needed, needed_by}
-use Rattle.upd_desk.specs.Outcomes.{compiled, outcome}
-use Rattle.upd_desk.specs.Holding.{Holds, HoldsIn, IsWork, TriesRun}
+use Rattle.upd_desk.proofs.Common.{◌≡◌, ℕ, ◌+◌, ◌≤◌, nat_lt, true, List, ◌∷◌, length, Some, None, Ok, refl, ap, sym, ◌∙◌, subst, arith, CountedCardView}
+use Rattle.upd_desk.proofs.Common.{LibraryView, RunView, Rows, Shows, ShowsStates, Mode, Ghosts, Keeps, run_at, altered, ArrivalView, check_arrival, Came}
+use Rattle.upd_desk.proofs.Common.{Journal, distinct, kept, made_by, mark, library_after, IsMade, looked_at, needed, needed_by, compiled, outcome, Holds}
+use Rattle.upd_desk.proofs.Common.{HoldsIn, IsWork, TriesRun}
+use Rattle.upd_desk.specs.Made.{work_of}
 use Rattle.upd_desk.proofs.AlikeLemmas.{unheard_key}
 use Rattle.upd_desk.proofs.AnswerLemmas.{answer_again}
 use Rattle.upd_desk.proofs.ArrivesLemmas.{IsAsked}

@@ -1,6 +1,5 @@
 -- What holds of all elements of lists that are made of others.
-use Rattle.std.proofs.Common.{List, [], ◌∷◌, ◌++◌, map}
-use Rattle.std.specs.List.{flat_map, AllByRecursion}
+use Rattle.upd_diff.proofs.Common.{List, [], ◌∷◌, ◌++◌, map, flat_map, AllByRecursion}
 
 pub all_joined : {A : Type 0} (P : A → Type 0) (xs ys : List A) → AllByRecursion P xs → AllByRecursion P ys → AllByRecursion P (xs ++ ys)
 all_joined P [] ys a b = b

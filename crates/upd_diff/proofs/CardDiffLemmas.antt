@@ -1,13 +1,12 @@
 -- Card diffs that are found one after the other.
-use Rattle.std.proofs.Common.{ℕ, ◌+◌, List, [], ◌∷◌, ◌++◌, map, take, drop, refl, ap, subst, ◌∙◌, append-nil, arith}
+use Rattle.upd_diff.proofs.Common.{ℕ, ◌+◌, List, [], ◌∷◌, ◌++◌, map, take, drop, refl, ap, subst, ◌∙◌, append-nil, arith, flat_map-append, CardView}
+use Rattle.upd_diff.proofs.Common.{CardDiffView, Gone, New, card_before, card_after, IsKept, AreCardDiffs}
 use Rattle.std.proofs.lemmas.List.{take-append-drop}
-use Rattle.std.proofs.lemmas.Grind.{flat_map-append}
-use Rattle.upd_core.specs.Library.{CardView}
 use Rattle.upd_diff.proofs.AllLemmas.{all_joined}
-use Rattle.upd_diff.specs.CardDiffs.{CardDiffView, Gone, New, card_before, card_after, IsKept, AreCardDiffs}
 
 -- card diffs with those of more cards
-pub diffs_joined : (xs ys us vs : List CardView) (fs gs : List CardDiffView) → AreCardDiffs xs ys fs → AreCardDiffs us vs gs → AreCardDiffs (xs ++ us) (ys ++ vs) (fs ++ gs)
+pub diffs_joined : (xs ys us vs : List CardView) (fs gs : List CardDiffView) → AreCardDiffs xs ys fs → AreCardDiffs us vs gs
+    → AreCardDiffs (xs ++ us) (ys ++ vs) (fs ++ gs)
 diffs_joined xs ys us vs fs gs a b = record {
   olds = flat_map-append card_before fs gs ∙ (λ i. a.olds i ++ b.olds i);
   news = flat_map-append card_after fs gs ∙ (λ i. a.news i ++ b.news i);

@@ -1,23 +1,15 @@
 -- The rows that are inserted, after the rows that stay.
-use Rattle.std.proofs.Common.{◌≡◌, ℕ, ◌+◌, Bool, true, false, cond, List, [], ◌∷◌, ◌++◌, length, drop, refl, ap, sym, subst, ◌∙◌, append_assoc, append-nil}
-use Rattle.std.proofs.Common.{arith}
-use Rattle.std.specs.Prelude.{not, ◌==◌}
-use Rattle.std.specs.List.{count_by, flat_map, AllByRecursion}
+use Rattle.upd_diff.proofs.Common.{◌≡◌, ℕ, ◌+◌, Bool, true, false, cond, List, [], ◌∷◌, ◌++◌, length, drop, refl, ap, sym, subst, ◌∙◌, append_assoc}
+use Rattle.upd_diff.proofs.Common.{append-nil, arith, not, ◌==◌, flat_map, AllByRecursion, Decides-eqb, CardRef, Entry, Ident, Target, CardView, ref_of}
+use Rattle.upd_diff.proofs.Common.{CardRow, EntryRow, TargetRow, IsSame, card_rows, entry_rows, target_rows, CardDiffView, DeckDiffView, Kept, Gone, New}
+use Rattle.upd_diff.proofs.Common.{card_after, IsKept, same_entry, begins, entries_new, targets_new, grown, brought, same_of, count_cons, on_cards}
+use Rattle.upd_diff.proofs.Common.{on_entries, on_targets, all_acts, acts_append, Nothing, idle_acts}
+use Rattle.std.specs.List.{count_by}
 use Rattle.std.proofs.lemmas.Bool.{and_parts}
-use Rattle.std.proofs.lemmas.Bool.Decides.{Decides-eqb}
 use Rattle.std.proofs.lemmas.List.{nil_from_length}
-use Rattle.upd_text.specs.declared.card_ref.CardRef.{CardRef}
-use Rattle.upd_core.specs.declared.card.Entry.{Entry}
-use Rattle.upd_core.specs.declared.ident.Ident.{Ident}
-use Rattle.upd_core.specs.declared.target.Target.{Target}
-use Rattle.upd_core.specs.Library.{CardView, ref_of}
-use Rattle.upd_records.specs.Rows.{CardRow, EntryRow, TargetRow, IsSame, card_rows, entry_rows, target_rows}
-use Rattle.upd_diff.specs.CardDiffs.{CardDiffView, DeckDiffView, Kept, Gone, New, card_after, IsKept}
-use Rattle.upd_core.specs.Entries.{same_entry}
-use Rattle.upd_diff.specs.RowChanges.{begins, entries_new, targets_new, grown, brought}
-use Rattle.upd_records.proofs.CountLemmas.{same_of, count_append, count_cons}
+use Rattle.upd_records.proofs.CountLemmas.{count_append}
 use Rattle.upd_records.proofs.EqualLemmas.{same_entry_is}
-use Rattle.upd_records.proofs.EffectLemmas.{on_cards, on_entries, on_targets, all_acts, acts_append, acts_appending, Nothing, idle_acts}
+use Rattle.upd_records.proofs.EffectLemmas.{acts_appending}
 use Rattle.upd_diff.proofs.AllLemmas.{all_joined}
 use Rattle.upd_diff.proofs.KindLemmas.{entries_all, targets_all, grown_all}
 use Rattle.upd_diff.proofs.GoneLemmas.{entries_go, targets_go, staying}
@@ -84,7 +76,8 @@ grown_entries idents c e xs = go (begins c.history e.history)
     go true = entries_come (ref_of idents c) (length c.history) (drop (length c.history) e.history) xs
     go false = entries_come (ref_of idents c) 0 e.history xs
 
-entries_brought : (idents : List Ident) (d p : ℕ) (card_diffs : List CardDiffView) (xs : List EntryRow) → all_acts on_entries (brought idents d p card_diffs) xs ≡ xs
+entries_brought : (idents : List Ident) (d p : ℕ) (card_diffs : List CardDiffView) (xs : List EntryRow)
+    → all_acts on_entries (brought idents d p card_diffs) xs ≡ xs
     ++ flat_map (come_entries idents) card_diffs
 entries_brought idents d p [] xs = sym (append-nil xs)
 entries_brought idents d p (Kept c e ∷ card_diffs) xs =
@@ -103,7 +96,8 @@ entries_brought idents d p (New e ∷ card_diffs) xs =
     ∙ entries_brought idents d (p + 1) card_diffs (xs ++ come_entries idents (New e))
     ∙ append_assoc xs (come_entries idents (New e)) (flat_map (come_entries idents) card_diffs)
 
-targets_brought : (idents : List Ident) (d p : ℕ) (card_diffs : List CardDiffView) (xs : List TargetRow) → all_acts on_targets (brought idents d p card_diffs) xs ≡ xs
+targets_brought : (idents : List Ident) (d p : ℕ) (card_diffs : List CardDiffView) (xs : List TargetRow)
+    → all_acts on_targets (brought idents d p card_diffs) xs ≡ xs
     ++ flat_map (come_targets idents) card_diffs
 targets_brought idents d p [] xs = sym (append-nil xs)
 targets_brought idents d p (Kept c e ∷ card_diffs) xs =
@@ -203,7 +197,8 @@ row_kept : (idents : List Ident) (d p : ℕ) (c e : CardView) → e ≡ record c
 row_kept idents d p c e kept = ap (kept_row idents d p) (sym kept)
 
 cards_woven_in : (idents : List Ident) (d p : ℕ) (card_diffs : List CardDiffView) → AllByRecursion IsKept card_diffs → (test : CardRow → Bool)
-    → count_by test (kept_to idents d p card_diffs) + count_by test (come_cards idents d p card_diffs) ≡ count_by test (card_rows idents d p (flat_map card_after card_diffs))
+    → count_by test (kept_to idents d p card_diffs) + count_by test (come_cards idents d p card_diffs)
+    ≡ count_by test (card_rows idents d p (flat_map card_after card_diffs))
 cards_woven_in idents d p [] kept test = refl
 cards_woven_in idents d p (Kept c e ∷ card_diffs) kept test =
     let later = cards_woven_in idents d (p + 1) card_diffs kept.1 test in

@@ -1,18 +1,13 @@
 -- Changes that tables can carry out, one after the other.
-use Rattle.std.proofs.Common.{◌≡◌, ℕ, ◌+◌, ◌<◌, ◌≤◌, ◌^◌, Bool, true, false, cond, List, [], ◌∷◌, ◌++◌, refl, ap, sym, ◌∙◌, arith}
-use Rattle.std.specs.Prelude.{not, ◌==◌, ◌&&◌, ◌||◌, nat_lt, nat_le, ℤ, pos, negsuc, IsTrue, count_by}
-use Rattle.std.specs.List.{AllByRecursion}
-use Rattle.std.proofs.lemmas.Bool.Decides.{nat_tests}
-use Rattle.std.proofs.lemmas.List.{map-append}
-use Rattle.upd_core.specs.Library.{LibraryView}
-use Rattle.upd_records.specs.Rows.{CardRow, Rows, IsSame, Shows}
-use Rattle.upd_diff.specs.States.{row_changes_state}
-use Rattle.upd_records.specs.Changes.{ChangeView, IdentNew, IdentPurged, CardNew, CardGone, CardsMoved, EntryNew, EntriesGone, TargetNew, TargetsGone}
-use Rattle.upd_records.specs.Changes.{StatusNow, CountNow, done, done_all, moved_row}
-use Rattle.upd_records.specs.Fits.{CanMove, Fits, AllFit}
-use Rattle.upd_records.proofs.CountLemmas.{same_of, same_trans, count_cons}
+use Rattle.upd_diff.proofs.Common.{◌≡◌, ℕ, ◌+◌, ◌<◌, ◌≤◌, ◌^◌, Bool, true, false, cond, List, [], ◌∷◌, ◌++◌, refl, ap, sym, ◌∙◌, arith, not, ◌==◌, ◌&&◌, ◌||◌}
+use Rattle.upd_diff.proofs.Common.{nat_lt, nat_le, ℤ, pos, negsuc, IsTrue, AllByRecursion, nat_tests, map-append, LibraryView, CardRow, Rows, IsSame, Shows}
+use Rattle.upd_diff.proofs.Common.{row_changes_state, ChangeView, IdentNew, IdentPurged, CardNew, CardGone, CardsMoved, EntryNew, EntriesGone, TargetNew}
+use Rattle.upd_diff.proofs.Common.{TargetsGone, StatusNow, CountNow, done, done_all, moved_row, CanMove, AllFit, same_of, same_trans, count_cons, on_cards}
+use Rattle.upd_diff.proofs.Common.{all_acts, acts_append, cards_after}
+use Rattle.std.specs.Prelude.{count_by}
+use Rattle.upd_records.specs.Fits.{Fits}
 use Rattle.upd_diff.proofs.AllLemmas.{all_joined}
-use Rattle.upd_records.proofs.EffectLemmas.{on_cards, act, all_acts, acts_append, act_same, cards_one, cards_after}
+use Rattle.upd_records.proofs.EffectLemmas.{act, act_same, cards_one}
 
 -- ---- changes one after the other
 

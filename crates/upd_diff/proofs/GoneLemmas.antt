@@ -1,20 +1,11 @@
 -- The rows that are deleted from the rows of all cards.
-use Rattle.std.proofs.Common.{◌≡◌, ℕ, ◌+◌, Bool, true, false, cond, List, [], ◌∷◌, ◌++◌, map, length, refl, ap, sym, ◌∙◌, append-nil}
-use Rattle.std.specs.Prelude.{not, ◌==◌, ◌||◌}
-use Rattle.std.specs.List.{filter, flat_map, AllByRecursion}
+use Rattle.upd_diff.proofs.Common.{◌≡◌, ℕ, ◌+◌, Bool, true, false, cond, List, [], ◌∷◌, ◌++◌, map, length, refl, ap, sym, ◌∙◌, append-nil, not, ◌==◌, ◌||◌}
+use Rattle.upd_diff.proofs.Common.{filter, flat_map, AllByRecursion, CardRef, Entry, Ident, Target, CardView, ref_of, AreApart, CardRow, EntryRow, TargetRow}
+use Rattle.upd_diff.proofs.Common.{same_ref, card_rows, entry_rows, target_rows, CardDiffView, DeckDiffView, Kept, Gone, New, card_before, CardGone}
+use Rattle.upd_diff.proofs.Common.{EntriesGone, TargetsGone, begins, gone_of, same_ref_own, on_cards, on_entries, on_targets, all_acts, is_in, without}
 use Rattle.std.proofs.lemmas.List.Elements.{filter-append}
-use Rattle.upd_text.specs.declared.card_ref.CardRef.{CardRef}
-use Rattle.upd_core.specs.declared.card.Entry.{Entry}
-use Rattle.upd_core.specs.declared.ident.Ident.{Ident}
-use Rattle.upd_core.specs.declared.target.Target.{Target}
-use Rattle.upd_core.specs.Library.{CardView, ref_of}
-use Rattle.upd_core.specs.Sound.{AreApart}
-use Rattle.upd_records.specs.Rows.{CardRow, EntryRow, TargetRow, same_ref, card_rows, entry_rows, target_rows}
-use Rattle.upd_diff.specs.CardDiffs.{CardDiffView, DeckDiffView, Kept, Gone, New, card_before}
-use Rattle.upd_records.specs.Changes.{CardGone, EntriesGone, TargetsGone}
-use Rattle.upd_diff.specs.RowChanges.{begins, gone_of}
-use Rattle.upd_records.proofs.EqualLemmas.{other_ref, same_ref_own}
-use Rattle.upd_records.proofs.EffectLemmas.{on_cards, on_entries, on_targets, all_acts, is_in, without, without_none}
+use Rattle.upd_records.proofs.EqualLemmas.{other_ref}
+use Rattle.upd_records.proofs.EffectLemmas.{without_none}
 
 -- ---- which cards are deleted, by a flag at each card diff
 
@@ -45,7 +36,8 @@ module _ (idents : List Ident) (goes : CardDiffView → Bool) where
       go false later = later
 
   -- the keys still fit with that of a card which is not one of these
-  still : (k : CardRef) (keys : List CardRef) (card_diffs : List CardDiffView) → AllByRecursion (λ r. k ≡ r → ⊥) (map (ref_of idents) (flat_map card_before card_diffs))
+  still : (k : CardRef) (keys : List CardRef) (card_diffs : List CardDiffView)
+      → AllByRecursion (λ r. k ≡ r → ⊥) (map (ref_of idents) (flat_map card_before card_diffs))
       → AllByRecursion (Fits keys) card_diffs → AllByRecursion (Fits (k ∷ keys)) card_diffs
   still k keys [] apart fit = tt
   still k keys (Kept c d ∷ card_diffs) apart fit = ((rw (other_ref k (ref_of idents c) apart.0) fit.0.0, tt), still k keys card_diffs apart.1 fit.1)
@@ -53,23 +45,27 @@ module _ (idents : List Ident) (goes : CardDiffView → Bool) where
   still k keys (New d ∷ card_diffs) apart fit = (tt, still k keys card_diffs apart fit.1)
 
   -- the keys of the deleted cards fit
-  pub keys_fit : (card_diffs : List CardDiffView) → AreApart (map (ref_of idents) (flat_map card_before card_diffs)) → AllByRecursion (Fits (flat_map key_of card_diffs)) card_diffs
+  pub keys_fit : (card_diffs : List CardDiffView) → AreApart (map (ref_of idents) (flat_map card_before card_diffs))
+      → AllByRecursion (Fits (flat_map key_of card_diffs)) card_diffs
   keys_fit [] apart = tt
   keys_fit (Kept c d ∷ card_diffs) apart = go (goes (Kept c d)) refl (is_not_in (ref_of idents c) card_diffs apart.0) (keys_fit card_diffs apart.1)
     where
-      go : (b : Bool) → goes (Kept c d) ≡ b → is_in (flat_map key_of card_diffs) (ref_of idents c) ≡ false → AllByRecursion (Fits (flat_map key_of card_diffs)) card_diffs
+      go : (b : Bool) → goes (Kept c d) ≡ b → is_in (flat_map key_of card_diffs) (ref_of idents c) ≡ false
+          → AllByRecursion (Fits (flat_map key_of card_diffs)) card_diffs
           → AllByRecursion (Fits (cond b (ref_of idents c ∷ []) [] ++ flat_map key_of card_diffs)) (Kept c d ∷ card_diffs)
       go true e none later = ((rw (same_ref_own (ref_of idents c)) (sym e), tt), still (ref_of idents c) _ card_diffs apart.0 later)
       go false e none later = ((none ∙ sym e, tt), later)
   keys_fit (Gone c ∷ card_diffs) apart = go (goes (Gone c)) refl (is_not_in (ref_of idents c) card_diffs apart.0) (keys_fit card_diffs apart.1)
     where
-      go : (b : Bool) → goes (Gone c) ≡ b → is_in (flat_map key_of card_diffs) (ref_of idents c) ≡ false → AllByRecursion (Fits (flat_map key_of card_diffs)) card_diffs
+      go : (b : Bool) → goes (Gone c) ≡ b → is_in (flat_map key_of card_diffs) (ref_of idents c) ≡ false
+          → AllByRecursion (Fits (flat_map key_of card_diffs)) card_diffs
           → AllByRecursion (Fits (cond b (ref_of idents c ∷ []) [] ++ flat_map key_of card_diffs)) (Gone c ∷ card_diffs)
       go true e none later = ((rw (same_ref_own (ref_of idents c)) (sym e), tt), still (ref_of idents c) _ card_diffs apart.0 later)
       go false e none later = ((none ∙ sym e, tt), later)
   keys_fit (New d ∷ card_diffs) apart = go (goes (New d)) (keys_fit card_diffs apart)
     where
-      go : (b : Bool) → AllByRecursion (Fits (flat_map key_of card_diffs)) card_diffs → AllByRecursion (Fits (cond b [] [] ++ flat_map key_of card_diffs)) (New d ∷ card_diffs)
+      go : (b : Bool) → AllByRecursion (Fits (flat_map key_of card_diffs)) card_diffs
+          → AllByRecursion (Fits (cond b [] [] ++ flat_map key_of card_diffs)) (New d ∷ card_diffs)
       go true later = (tt, later)
       go false later = (tt, later)
 
@@ -222,7 +218,8 @@ rows_left card idents rows goes keys own (New d ∷ card_diffs) fit =
 -- the rows of a deck's cards that stay, at their old positions
 abbrev pub kept_from : List Ident → ℕ → ℕ → List CardDiffView → List CardRow
 kept_from idents d w [] = []
-kept_from idents d w (Kept was is ∷ card_diffs) = record { card = ref_of idents was; deck = d; pos = w; body = was.text } ∷ kept_from idents d (w + 1) card_diffs
+kept_from idents d w (Kept was is ∷ card_diffs) = record { card = ref_of idents was; deck = d; pos = w; body = was.text }
+    ∷ kept_from idents d (w + 1) card_diffs
 kept_from idents d w (Gone was ∷ card_diffs) = kept_from idents d (w + 1) card_diffs
 kept_from idents d w (New is ∷ card_diffs) = kept_from idents d w card_diffs
 
@@ -240,7 +237,8 @@ cards_left_in idents keys d w (New e ∷ card_diffs) fit = cards_left_in idents 
 
 pub cards_left : (idents : List Ident) (keys : List CardRef) (ks : List DeckDiffView)
     → AllByRecursion (λ k. AllByRecursion (Fits idents card_goes keys) k.card_diffs) ks
-    → without card_of keys (flat_map (λ k. card_rows idents k.deck 0 (flat_map card_before k.card_diffs)) ks) ≡ flat_map (λ k. kept_from idents k.deck 0 k.card_diffs) ks
+    → without card_of keys (flat_map (λ k. card_rows idents k.deck 0 (flat_map card_before k.card_diffs)) ks)
+    ≡ flat_map (λ k. kept_from idents k.deck 0 k.card_diffs) ks
 cards_left idents keys [] fit = refl
 cards_left idents keys (k ∷ ks) fit =
     filter-append _ (card_rows idents k.deck 0 (flat_map card_before k.card_diffs)) _

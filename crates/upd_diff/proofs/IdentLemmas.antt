@@ -1,18 +1,12 @@
 -- A directory that is extended: its changes, and the names that stay.
-use Rattle.std.proofs.Common.{◌≡◌, ℕ, zero, suc, ◌+◌, ◌-◌, ◌<◌, ◌≤◌, Bool, true, false, cond, List, [], ◌∷◌, ◌++◌, map, inl, inr, refl, ap, sym, subst, ◌∙◌}
-use Rattle.std.proofs.Common.{append_assoc, append-nil, arith}
-use Rattle.std.specs.Prelude.{not, ◌==◌, ◌&&◌, ◌⊎◌, slice_get, Some}
-use Rattle.std.specs.List.{AllByRecursion}
-use Rattle.std.proofs.lemmas.List.{map-append}
-use Rattle.std.proofs.lemmas.Option.{same_Some}
-use Rattle.std.proofs.lemmas.Bool.Decides.{Decides-eqb}
-use Rattle.upd_core.specs.declared.ident.Ident.{Ident}
-use Rattle.upd_core.specs.Library.{CardView, LibraryView, name_of, ref_of}
-use Rattle.upd_core.specs.Sound.{AreAgedFrom, Continues, IsSound, IsOfHeld, is_held}
+use Rattle.upd_diff.proofs.Common.{◌≡◌, ℕ, zero, suc, ◌+◌, ◌-◌, ◌<◌, ◌≤◌, Bool, true, false, cond, List, [], ◌∷◌, ◌++◌, map, inl, inr, refl, ap, sym, subst}
+use Rattle.upd_diff.proofs.Common.{◌∙◌, append_assoc, append-nil, arith, not, ◌==◌, ◌&&◌, AllByRecursion, map-append, same_Some, Decides-eqb, Ident, CardView}
+use Rattle.upd_diff.proofs.Common.{LibraryView, ref_of, Continues, IsSound, IdentNew, IdentPurged, ident_changes, on_idents, all_acts, acts_append}
+use Rattle.std.specs.Prelude.{◌⊎◌, slice_get, Some}
+use Rattle.upd_core.specs.Library.{name_of}
+use Rattle.upd_core.specs.Sound.{AreAgedFrom, IsOfHeld, is_held}
 use Rattle.upd_core.proofs.FoundLemmas.{IsAt, held_at}
-use Rattle.upd_records.specs.Changes.{IdentNew, IdentPurged, purged_row}
-use Rattle.upd_diff.specs.RowChanges.{ident_changes}
-use Rattle.upd_records.proofs.EffectLemmas.{on_idents, all_acts, acts_append}
+use Rattle.upd_records.specs.Changes.{purged_row}
 
 -- ---- the changes of a directory
 

@@ -1,15 +1,9 @@
 -- What holds of each kind of change holds of all row changes.
-use Rattle.std.proofs.Common.{ℕ, ◌+◌, Bool, true, false, cond, List, [], ◌∷◌, ◌++◌, length, drop}
-use Rattle.std.specs.Prelude.{not, ◌==◌, ◌&&◌, ℤ}
-use Rattle.std.specs.List.{flat_map, AllByRecursion}
-use Rattle.upd_text.specs.declared.card_ref.CardRef.{CardRef}
-use Rattle.upd_core.specs.declared.card.Entry.{Entry}
-use Rattle.upd_core.specs.declared.ident.Ident.{Ident}
-use Rattle.upd_core.specs.declared.target.Target.{Target}
-use Rattle.upd_core.specs.Library.{CardView, ref_of}
-use Rattle.upd_records.specs.Changes.{ChangeView, IdentNew, IdentPurged, CardNew, CardGone, CardsMoved, EntryNew, EntriesGone, TargetNew, TargetsGone}
-use Rattle.upd_diff.specs.CardDiffs.{CardDiffView, DeckDiffView, Kept, Gone, New}
-use Rattle.upd_diff.specs.RowChanges.{begins, ident_changes, gone_of, move_to, moves, distance, entries_new, targets_new, grown, card_new, brought}
+use Rattle.upd_diff.proofs.Common.{ℕ, ◌+◌, Bool, true, false, cond, List, [], ◌∷◌, ◌++◌, length, drop, not, ◌==◌, ◌&&◌, ℤ, flat_map, AllByRecursion, CardRef}
+use Rattle.upd_diff.proofs.Common.{Entry, Ident, Target, CardView, ref_of, ChangeView, IdentNew, IdentPurged, CardNew, CardGone, CardsMoved, EntryNew}
+use Rattle.upd_diff.proofs.Common.{EntriesGone, TargetNew, TargetsGone, CardDiffView, DeckDiffView, Kept, Gone, New, begins, ident_changes, gone_of, move_to}
+use Rattle.upd_diff.proofs.Common.{moves, distance, entries_new, targets_new, grown, brought}
+use Rattle.upd_diff.specs.RowChanges.{card_new}
 use Rattle.upd_diff.proofs.AllLemmas.{all_joined, each_flat, each_map}
 
 module _ (P : ChangeView → Type 0) where
@@ -24,7 +18,8 @@ module _ (P : ChangeView → Type 0) where
       one false = tt
 
   pub gone_all : ((card : CardRef) → P (CardGone card)) → ((card : CardRef) → P (EntriesGone card))
-      → ((card : CardRef) (targets : List Target) → P (TargetsGone card targets)) → (idents : List Ident) (f : CardDiffView) → AllByRecursion P (gone_of idents f)
+      → ((card : CardRef) (targets : List Target) → P (TargetsGone card targets)) → (idents : List Ident) (f : CardDiffView)
+      → AllByRecursion P (gone_of idents f)
   gone_all card entries targets idents (Kept c d) = go (begins c.history d.history)
     where
       go : (b : Bool) → AllByRecursion P (cond b [] (EntriesGone (ref_of idents c) ∷ []))
@@ -76,7 +71,8 @@ module _ (P : ChangeView → Type 0) where
       → AllByRecursion P (brought idents d p card_diffs)
   brought_all card entry target idents d p [] = tt
   brought_all card entry target idents d p (Kept c e ∷ card_diffs) =
-      all_joined P (grown idents c e) (brought idents d (p + 1) card_diffs) (grown_all entry idents c e) (brought_all card entry target idents d (p + 1) card_diffs)
+      all_joined P (grown idents c e) (brought idents d (p + 1) card_diffs) (grown_all entry idents c e)
+      (brought_all card entry target idents d (p + 1) card_diffs)
   brought_all card entry target idents d p (Gone c ∷ card_diffs) = brought_all card entry target idents d p card_diffs
   brought_all card entry target idents d p (New e ∷ card_diffs) =
       all_joined P (card_new idents d p e) (brought idents d (p + 1) card_diffs) (
@@ -101,4 +97,5 @@ module _ (P : ChangeView → Type 0) where
   pub brought_each : ((card : CardRef) (d p : ℕ) (body : List ℕ) → P (CardNew card d p body)) → ((card : CardRef) (n : ℕ) (e : Entry) → P (EntryNew card n e))
       → ((card : CardRef) (n : ℕ) (t : Target) → P (TargetNew card n t)) → (idents : List Ident) (ks : List DeckDiffView)
       → AllByRecursion P (flat_map (λ k. brought idents k.deck 0 k.card_diffs) ks)
-  brought_each card entry target idents = each_flat P (λ k. brought idents k.deck 0 k.card_diffs) (λ k. brought_all card entry target idents k.deck 0 k.card_diffs)
+  brought_each card entry target idents =
+      each_flat P (λ k. brought idents k.deck 0 k.card_diffs) (λ k. brought_all card entry target idents k.deck 0 k.card_diffs)

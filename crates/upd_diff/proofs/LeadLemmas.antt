@@ -1,9 +1,8 @@
 -- Deck diffs that pair decks: how they are found, and the decks that they lead to.
-use Rattle.std.proofs.Common.{◌≡◌, ℕ, zero, suc, true, cond, inl, inr, List, [], ◌∷◌, ◌++◌, map, drop, slice_get, Some, refl, ap, sym, subst, ◌∙◌}
-use Rattle.std.proofs.Common.{append_assoc, append-nil}
-use Rattle.std.specs.List.{list_any}
-use Rattle.upd_core.specs.Library.{CardView, DeckView}
-use Rattle.upd_diff.specs.CardDiffs.{DeckDiffView, AreOfDeck, Await, Lead, Paired, deck_before, deck_after, has_cards, standing}
+use Rattle.upd_diff.proofs.Common.{◌≡◌, ℕ, zero, suc, true, cond, inl, inr, List, [], ◌∷◌, ◌++◌, map, drop, slice_get, Some, refl, ap, sym, subst, ◌∙◌}
+use Rattle.upd_diff.proofs.Common.{append_assoc, append-nil, list_any, CardView, DeckView, DeckDiffView, AreOfDeck, Await, Lead, deck_before, deck_after}
+use Rattle.upd_diff.proofs.Common.{has_cards, standing}
+use Rattle.upd_diff.specs.CardDiffs.{Paired}
 
 -- ---- the decks that paired diffs lead to
 

@@ -9,6 +9,7 @@ pub mod LeadLemmas
 pub mod StateLemmas
 pub mod ShownRowsLemmas
 pub mod AllLemmas
+pub mod Common
 pub mod KindLemmas
 pub mod FitLemmas
 pub mod TouchedLemmas

@@ -1,13 +1,7 @@
 -- Steps of the loops over card diffs.
-use Rattle.std.proofs.Common.{◌≡◌, ℕ, ◌+◌, ◌<◌, false, List, [], ◌∷◌, map, length, drop, get_or, refl, ap, sym, ◌∙◌, arith}
-use Rattle.std.proofs.lemmas.Bool.{and_right}
-use Rattle.std.proofs.lemmas.List.{drop_more}
-use Rattle.upd_core.specs.declared.card.Entry.{Entry}
-use Rattle.upd_core.specs.declared.ident.Ident.{Ident}
+use Rattle.upd_diff.proofs.Common.{◌≡◌, ℕ, ◌+◌, ◌<◌, false, List, [], ◌∷◌, map, length, drop, get_or, refl, ap, sym, ◌∙◌, arith, and_right, drop_more, Entry}
+use Rattle.upd_diff.proofs.Common.{Ident, card_diff_view, begins, ident_changes, same_entry}
 use Rattle.upd_diff.specs.declared.card_diffs.CardDiff.{CardDiff}
-use Rattle.upd_diff.specs.CardDiffs.{card_diff_view}
-use Rattle.upd_diff.specs.RowChanges.{begins, ident_changes}
-use Rattle.upd_core.specs.Entries.{same_entry}
 
 -- the card diffs from an index on
 pub next_diffs : (xs : List CardDiff) (i : ℕ) (x : CardDiff) → i < length xs → x ≡ get_or xs i x → map card_diff_view (drop i xs)

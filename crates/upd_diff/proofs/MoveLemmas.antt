@@ -1,17 +1,11 @@
 -- The moves take the cards that stay to their new positions.
-use Rattle.std.proofs.Common.{◌≡◌, ℕ, ◌+◌, ◌-◌, ◌<◌, ◌≤◌, Bool, true, false, cond, List, [], ◌∷◌, ◌++◌, map, length, ◌^◌, refl, ap, sym, arith}
-use Rattle.std.specs.Prelude.{nat_lt, nat_le, ◌==◌, ◌&&◌, pos, negsuc, IsTrue}
-use Rattle.std.specs.List.{flat_map, AllByRecursion}
+use Rattle.upd_diff.proofs.Common.{◌≡◌, ℕ, ◌+◌, ◌-◌, ◌<◌, ◌≤◌, Bool, true, false, cond, List, [], ◌∷◌, ◌++◌, map, length, ◌^◌, refl, ap, sym, arith, nat_lt}
+use Rattle.upd_diff.proofs.Common.{nat_le, ◌==◌, ◌&&◌, pos, negsuc, IsTrue, flat_map, AllByRecursion, Decides-eqb, nat_tests, Ident, CardView, ref_of}
+use Rattle.upd_diff.proofs.Common.{AreApart, CardRow, ChangeView, CardsMoved, moved_row, CardDiffView, DeckDiffView, Kept, Gone, New, card_before}
+use Rattle.upd_diff.proofs.Common.{deck_before, standing, moves, move_to, distance, CanMove}
 use Rattle.std.proofs.lemmas.Bool.{ltb-true}
-use Rattle.std.proofs.lemmas.Bool.Decides.{Decides-eqb, nat_tests}
-use Rattle.upd_core.specs.declared.ident.Ident.{Ident}
-use Rattle.upd_core.specs.Library.{CardView, ref_of}
-use Rattle.upd_core.specs.Sound.{AreApart}
-use Rattle.upd_records.specs.Rows.{CardRow}
-use Rattle.upd_records.specs.Changes.{ChangeView, CardsMoved, moved_row, shifted}
-use Rattle.upd_diff.specs.CardDiffs.{CardDiffView, DeckDiffView, Kept, Gone, New, IsShort, card_before, deck_before, standing}
-use Rattle.upd_diff.specs.RowChanges.{moves, move_to, distance}
-use Rattle.upd_records.specs.Fits.{CanMove}
+use Rattle.upd_records.specs.Changes.{shifted}
+use Rattle.upd_diff.specs.CardDiffs.{IsShort}
 use Rattle.upd_diff.proofs.AllLemmas.{all_joined, each_flat}
 use Rattle.upd_diff.proofs.FitLemmas.{Carry, carry_none, carry_append, carry_joined, IsMove, are_moves}
 use Rattle.upd_diff.proofs.KindLemmas.{moves_all}
@@ -51,7 +45,8 @@ shift : (idents : List Ident) (d w p v q : ℕ) (card_diffs : List CardDiffView)
 shift idents d w p v q [] behind e = refl
 shift idents d w p v q (Kept c x ∷ card_diffs) behind e =
     rw (eq_test d, le_test w v behind, way_is w p v q behind e)
-    (ap (λ t. record { card = ref_of idents c; deck = d; pos = q; body = c.text } ∷ t) (shift idents d w p (v + 1) (q + 1) card_diffs (omega arith) (omega arith)))
+    (ap (λ t. record { card = ref_of idents c; deck = d; pos = q; body = c.text } ∷ t)
+    (shift idents d w p (v + 1) (q + 1) card_diffs (omega arith) (omega arith)))
 shift idents d w p v q (Gone c ∷ card_diffs) behind e = shift idents d w p (v + 1) (q + 1) card_diffs (omega arith) (omega arith)
 shift idents d w p v q (New x ∷ card_diffs) behind e = shift idents d w p v q card_diffs behind e
 
@@ -63,7 +58,8 @@ can_shift w p v behind within later = go (nat_lt p w) refl
     go true is = let less : p < w = ltb-true p w is in (omega arith, omega arith)
     go false is = let more : w ≤ p = grind (arith, nat_tests) in omega arith
 
-shift_fits : (idents : List Ident) (d w p v : ℕ) (card_diffs : List CardDiffView) → w ≤ v → v + length card_diffs < 2 ^ 32 → v + p + length card_diffs < 2 ^ 32 + w
+shift_fits : (idents : List Ident) (d w p v : ℕ) (card_diffs : List CardDiffView) → w ≤ v → v + length card_diffs < 2 ^ 32
+    → v + p + length card_diffs < 2 ^ 32 + w
     → AllByRecursion (λ r. IsTrue ((r.deck == d) && nat_le w r.pos) → CanMove (distance w p) r.pos) (kept_from idents d v card_diffs)
 shift_fits idents d w p v [] behind within later = tt
 shift_fits idents d w p v (Kept c x ∷ card_diffs) behind within later =
@@ -141,7 +137,8 @@ moves_do : (idents : List Ident) (d w p : ℕ) (card_diffs : List CardDiffView) 
     → Carry (moves d w p card_diffs) (kept_from idents d w card_diffs) (kept_to idents d p card_diffs)
 moves_do idents d w p [] short later = carry_none []
 moves_do idents d w p (Kept c e ∷ card_diffs) short later =
-    carry_append (move_to d w p) (moves d (p + 1) (p + 1) card_diffs) (kept_from idents d w (Kept c e ∷ card_diffs)) (kept_from idents d p (Kept c e ∷ card_diffs))
+    carry_append (move_to d w p) (moves d (p + 1) (p + 1) card_diffs) (kept_from idents d w (Kept c e ∷ card_diffs))
+    (kept_from idents d p (Kept c e ∷ card_diffs))
     (kept_to idents d p (Kept c e ∷ card_diffs)) (move_does idents d w p (Kept c e ∷ card_diffs) short later)
     (carry_joined (moves d (p + 1) (p + 1) card_diffs) (kept_row idents d p c ∷ []) (kept_from idents d (p + 1) card_diffs) (kept_row idents d p c ∷ [])
     (kept_to idents d (p + 1) card_diffs) (moves_all IsMove are_moves d (p + 1) (p + 1) card_diffs)
@@ -174,13 +171,15 @@ none_moves d w p (Kept c x ∷ card_diffs) e = absurd (cc)
 none_moves d w p (Gone c ∷ card_diffs) e = absurd (cc)
 none_moves d w p (New x ∷ card_diffs) e = none_moves d w (p + 1) card_diffs e
 
-elsewhere_from : (idents : List Ident) (d a w p v : ℕ) (card_diffs : List CardDiffView) → (d ≡ a → ⊥) → AllByRecursion (IsFixed d w p) (kept_from idents a v card_diffs)
+elsewhere_from : (idents : List Ident) (d a w p v : ℕ) (card_diffs : List CardDiffView) → (d ≡ a → ⊥)
+    → AllByRecursion (IsFixed d w p) (kept_from idents a v card_diffs)
 elsewhere_from idents d a w p v [] differ = tt
 elsewhere_from idents d a w p v (Kept c x ∷ card_diffs) differ = (λ e. absurd (differ (sym e)), elsewhere_from idents d a w p (v + 1) card_diffs differ)
 elsewhere_from idents d a w p v (Gone c ∷ card_diffs) differ = elsewhere_from idents d a w p (v + 1) card_diffs differ
 elsewhere_from idents d a w p v (New x ∷ card_diffs) differ = elsewhere_from idents d a w p v card_diffs differ
 
-elsewhere_to : (idents : List Ident) (d a w p v : ℕ) (card_diffs : List CardDiffView) → (d ≡ a → ⊥) → AllByRecursion (IsFixed d w p) (kept_to idents a v card_diffs)
+elsewhere_to : (idents : List Ident) (d a w p v : ℕ) (card_diffs : List CardDiffView) → (d ≡ a → ⊥)
+    → AllByRecursion (IsFixed d w p) (kept_to idents a v card_diffs)
 elsewhere_to idents d a w p v [] differ = tt
 elsewhere_to idents d a w p v (Kept c x ∷ card_diffs) differ = (λ e. absurd (differ (sym e)), elsewhere_to idents d a w p (v + 1) card_diffs differ)
 elsewhere_to idents d a w p v (Gone c ∷ card_diffs) differ = elsewhere_to idents d a w p v card_diffs differ
@@ -228,8 +227,10 @@ under_others idents d p card_diffs (k ∷ ks) apart = go (flat_map card_before k
         → Carry (moves k.deck 0 0 k.card_diffs ++ all_moves ks) (kept_to idents d p card_diffs) (kept_to idents d p card_diffs)
     go [] none apart later = rw (none_moves k.deck 0 0 k.card_diffs none) (later apart)
     go (c ∷ cs) some apart later =
-        carry_append (moves k.deck 0 0 k.card_diffs) (all_moves ks) (kept_to idents d p card_diffs) (kept_to idents d p card_diffs) (kept_to idents d p card_diffs)
-        (moves_fix k.deck 0 0 k.card_diffs (kept_to idents d p card_diffs) (elsewhere_to idents k.deck d 0 0 p card_diffs (λ e. apart.0 (sym e)))) (later apart.1)
+        carry_append (moves k.deck 0 0 k.card_diffs) (all_moves ks) (kept_to idents d p card_diffs) (kept_to idents d p card_diffs)
+        (kept_to idents d p card_diffs)
+        (moves_fix k.deck 0 0 k.card_diffs (kept_to idents d p card_diffs) (elsewhere_to idents k.deck d 0 0 p card_diffs (λ e. apart.0 (sym e))))
+        (later apart.1)
 
 pub all_moves_do : (idents : List Ident) (ks : List DeckDiffView) → AreApart (ages_before ks) → AllByRecursion IsShort ks
     → Carry (all_moves ks) (all_from idents ks) (all_to idents ks)
@@ -242,11 +243,16 @@ all_moves_do idents (k ∷ ks) apart short = go (flat_map card_before k.card_dif
     go : (cards : List CardView) → flat_map card_before k.card_diffs ≡ cards → AreApart (ages_with k cards ks)
         → (AreApart (ages_before ks) → Carry (all_moves ks) (all_from idents ks) (all_to idents ks))
         → Carry (moves k.deck 0 0 k.card_diffs ++ all_moves ks) (kept_from idents k.deck 0 k.card_diffs ++ all_from idents ks) (all_to idents (k ∷ ks))
-    go [] none apart later = rw (none_moves k.deck 0 0 k.card_diffs none, none_from idents k.deck 0 k.card_diffs none, none_to idents k.deck 0 k.card_diffs none) (later apart)
+    go [] none apart later = rw (
+      none_moves k.deck 0 0 k.card_diffs none,
+      none_from idents k.deck 0 k.card_diffs none,
+      none_to idents k.deck 0 k.card_diffs none,
+    ) (later apart)
     go (c ∷ cs) some apart later =
         carry_append (moves k.deck 0 0 k.card_diffs) (all_moves ks) (kept_from idents k.deck 0 k.card_diffs ++ all_from idents ks)
         (kept_to idents k.deck 0 k.card_diffs ++ all_from idents ks) (all_to idents (k ∷ ks))
-        (carry_joined (moves k.deck 0 0 k.card_diffs) (kept_from idents k.deck 0 k.card_diffs) (all_from idents ks) (kept_to idents k.deck 0 k.card_diffs) (all_from idents ks)
+        (carry_joined (moves k.deck 0 0 k.card_diffs) (kept_from idents k.deck 0 k.card_diffs) (all_from idents ks) (kept_to idents k.deck 0 k.card_diffs)
+        (all_from idents ks)
         (moves_all IsMove are_moves k.deck 0 0 k.card_diffs) (moves_do idents k.deck 0 0 k.card_diffs (few short.0) (few short.0))
         (moves_fix k.deck 0 0 k.card_diffs (all_from idents ks) (others_stay idents k.deck ks apart.0)))
         (carry_joined (all_moves ks) (kept_to idents k.deck 0 k.card_diffs) (all_from idents ks) (kept_to idents k.deck 0 k.card_diffs) (all_to idents ks)

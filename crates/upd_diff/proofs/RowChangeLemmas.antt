@@ -1,29 +1,21 @@
 -- The law of row changes: carried out on rows that show the library before, they leave rows that show the library after.
-use Rattle.std.proofs.Common.{◌≡◌, ℕ, ◌+◌, Bool, true, false, cond, List, [], ◌∷◌, ◌++◌, map, refl, ap, sym, subst, ◌∙◌}
-use Rattle.std.specs.List.{filter, flat_map, AllByRecursion}
-use Rattle.std.proofs.lemmas.Grind.{flat_map-append}
+use Rattle.upd_diff.proofs.Common.{◌≡◌, ℕ, ◌+◌, Bool, true, false, cond, List, [], ◌∷◌, ◌++◌, map, refl, ap, sym, subst, ◌∙◌, filter, flat_map}
+use Rattle.upd_diff.proofs.Common.{AllByRecursion, flat_map-append, CardRef, Ident, CardView, DeckView, LibraryView, all_decks, ref_of, AreApart, Continues}
+use Rattle.upd_diff.proofs.Common.{IsSound, all_cards, rising_apart, CardRow, EntryRow, TargetRow, Rows, IsSame, Shows, card_rows, entry_rows, target_rows}
+use Rattle.upd_diff.proofs.Common.{ChangeView, done_all, CardDiffView, DeckDiffView, Lead, IsKept, card_before, card_after, deck_before, deck_after}
+use Rattle.upd_diff.proofs.Common.{has_cards, standing, gone_of, ident_changes, brought, card_changes, row_changes, same_of, same_trans, Nothing, on_idents}
+use Rattle.upd_diff.proofs.Common.{on_cards, on_entries, on_targets, all_acts, acts_append, idle_acts, AllFit, cards_after, is_in, without}
 use Rattle.std.proofs.lemmas.List.Folds.{flat_map-map}
-use Rattle.upd_text.specs.declared.card_ref.CardRef.{CardRef}
-use Rattle.upd_core.specs.declared.ident.Ident.{Ident}
-use Rattle.upd_core.specs.Library.{CardView, DeckView, LibraryView, all_decks, ref_of}
-use Rattle.upd_core.specs.Sound.{AreApart, Continues, IsSound, all_cards}
-use Rattle.upd_core.proofs.ApartLemmas.{all_front, all_back, rising_apart}
+use Rattle.upd_core.proofs.ApartLemmas.{all_front, all_back}
 use Rattle.upd_core.proofs.FoundLemmas.{refs_apart}
-use Rattle.upd_records.specs.Rows.{CardRow, EntryRow, TargetRow, Rows, IsSame, Shows, rows_of, card_rows, entry_rows, target_rows}
-use Rattle.upd_records.specs.Changes.{ChangeView, done_all}
-use Rattle.upd_diff.specs.CardDiffs.{CardDiffView, DeckDiffView, Lead, IsKept, card_before, card_after, deck_before, deck_after, has_cards}
-use Rattle.upd_diff.specs.CardDiffs.{standing}
-use Rattle.upd_diff.specs.RowChanges.{gone_of, ident_changes, brought, card_changes, row_changes}
-use Rattle.upd_records.proofs.CountLemmas.{same_of, same_trans, same_woven}
-use Rattle.upd_records.proofs.EffectLemmas.{Effect, Nothing, on_idents, on_cards, on_entries, on_targets, all_acts, acts_append, acts_same, AreIdle, idle_acts}
+use Rattle.upd_records.specs.Rows.{rows_of}
+use Rattle.upd_records.proofs.CountLemmas.{same_woven}
+use Rattle.upd_records.proofs.EffectLemmas.{Effect, acts_same, AreIdle, idents_after, entries_after, targets_after, acts_without}
 use Rattle.upd_diff.proofs.AllLemmas.{all_joined, all_flat}
 use Rattle.upd_diff.proofs.KindLemmas.{idents_all, gone_each, moves_each, brought_each}
 use Rattle.upd_diff.proofs.FitLemmas.{Carry, FitsAny, any_fit, fit_append, fit_same, of_cards}
-use Rattle.upd_records.specs.Fits.{AllFit}
-use Rattle.upd_records.proofs.EffectLemmas.{idents_after, cards_after, entries_after, targets_after, is_in, without, acts_without}
 use Rattle.upd_diff.proofs.GoneLemmas.{Fits, keys_fit, key_of, card_goes, entries_go, targets_go, card_of, entry_of, target_of, cards_gone, entries_gone}
-use Rattle.upd_diff.proofs.GoneLemmas.{targets_gone}
-use Rattle.upd_diff.proofs.GoneLemmas.{staying, entries_are_of, targets_are_of, rows_left, cards_left}
+use Rattle.upd_diff.proofs.GoneLemmas.{targets_gone, staying, entries_are_of, targets_are_of, rows_left, cards_left}
 use Rattle.upd_diff.proofs.MoveLemmas.{kept_to, all_from, all_to, all_moves, all_moves_do, ages_before}
 use Rattle.upd_diff.proofs.ComeLemmas.{come_cards, come_entries, come_targets, all_cards_brought, all_entries_brought, all_targets_brought}
 use Rattle.upd_diff.proofs.ComeLemmas.{entries_woven, targets_woven, cards_woven}
@@ -222,16 +214,19 @@ module _ (old new : LibraryView) (ks : List DeckDiffView) (sound : IsSound old) 
       ∙ cards_acted new.idents ks (rows_of old).cards
       ∙ ap (λ t. all_acts on_cards (all_moves ks) t ++ flat_map (λ k. come_cards new.idents k.deck 0 k.card_diffs) ks) cards_left_are
       ∙ ap (λ t. t ++ flat_map (λ k. come_cards new.idents k.deck 0 k.card_diffs) ks) moves_carry.are))
-      (same_trans (same_woven (λ k. AllByRecursion IsKept k.card_diffs) (λ k. kept_to new.idents k.deck 0 k.card_diffs) (λ k. come_cards new.idents k.deck 0 k.card_diffs)
+      (same_trans (same_woven (λ k. AllByRecursion IsKept k.card_diffs) (λ k. kept_to new.idents k.deck 0 k.card_diffs)
+      (λ k. come_cards new.idents k.deck 0 k.card_diffs)
       (λ k. card_rows new.idents k.deck 0 (flat_map card_after k.card_diffs)) (cards_woven new.idents) ks lead.kept)
       (same_of _ _ (same_standing (λ d. card_rows new.idents d.ident 0 d.cards) (λ d. refl) deck_after ks (all_decks new) lead.news)))
 
   -- entries and targets: rows of a card, whatever its position
-  module _ {A : Type 0} (e : ChangeView → Effect A) (card : A → CardRef) (row : CardRef → CardView → List A) (mark : CardDiffView → Bool) (come : CardDiffView → List A)
+  module _ {A : Type 0} (e : ChangeView → Effect A) (card : A → CardRef) (row : CardRef → CardView → List A) (mark : CardDiffView → Bool)
+      (come : CardDiffView → List A)
       (own : (keys : List CardRef) (c : CardView) → without card keys (row (ref_of new.idents c) c)
       ≡ cond (is_in keys (ref_of new.idents c)) [] (row (ref_of new.idents c) c))
       (idle : AreIdle e (ident_changes old.idents new.idents))
-      (acted : (xs : List A) → all_acts e (card_changes new.idents ks) xs ≡ without card (keys new.idents ks mark) xs ++ flat_map (λ k. flat_map come k.card_diffs) ks)
+      (acted : (xs : List A) → all_acts e (card_changes new.idents ks) xs ≡ without card (keys new.idents ks mark) xs
+      ++ flat_map (λ k. flat_map come k.card_diffs) ks)
       (woven : (f : CardDiffView) → IsKept f
       → IsSame (staying mark (λ c. row (ref_of new.idents c) c) f ++ come f) (flat_map (λ c. row (ref_of new.idents c) c) (card_after f))) where
     rows_are : IsSame (all_acts e (row_changes old.idents new.idents ks) (flat_map (λ c. row (ref_of old.idents c) c) (all_cards old)))

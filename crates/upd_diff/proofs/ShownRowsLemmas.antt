@@ -1,12 +1,5 @@
 -- Row changes: what they do to the tables, and which cards they delete.
-use Rattle.std.proofs.Common.{List, sym, subst}
-use Rattle.upd_core.specs.Library.{LibraryView, all_decks}
-use Rattle.upd_core.specs.Sound.{Continues, IsSound}
-use Rattle.upd_records.specs.Changes.{ChangeView, done_all}
-use Rattle.upd_diff.specs.CardDiffs.{Lead}
-use Rattle.upd_records.specs.Fits.{AllFit}
-use Rattle.upd_records.specs.Rows.{Rows, Shows}
-use Rattle.upd_diff.specs.States.{TakeGone}
+use Rattle.upd_diff.proofs.Common.{List, sym, subst, LibraryView, all_decks, Continues, IsSound, ChangeView, done_all, Lead, AllFit, Rows, Shows, TakeGone}
 use Rattle.upd_diff.specs.RowChanges.{RowChanges}
 use Rattle.upd_diff.proofs.LeadLemmas.{paired_lead}
 use Rattle.upd_diff.proofs.StateLemmas.{row_changes_take}
@@ -17,8 +10,10 @@ module _ (old new : LibraryView) (changes : List ChangeView) where
   lead t = paired_lead (all_decks old) (all_decks new) t.decks t.paired
 
   -- carried out on tables that show the one library, they leave tables that show the other
-  pub shown_by_row_changes : IsSound old → Continues old.idents new.idents → RowChanges old new changes → (rows : Rows) → Shows rows old → Shows (done_all changes rows) new
-  shown_by_row_changes sound goes t rows shows = subst (λ cs. Shows (done_all cs rows) new) (sym t.are) (row_changes_show old new t.decks sound goes (lead t) rows shows)
+  pub shown_by_row_changes : IsSound old → Continues old.idents new.idents → RowChanges old new changes → (rows : Rows) → Shows rows old
+      → Shows (done_all changes rows) new
+  shown_by_row_changes sound goes t rows shows =
+      subst (λ cs. Shows (done_all cs rows) new) (sym t.are) (row_changes_show old new t.decks sound goes (lead t) rows shows)
 
   -- and such tables can carry them out
   pub fit_row_changes : IsSound old → Continues old.idents new.idents → RowChanges old new changes → (rows : Rows) → Shows rows old → AllFit changes rows

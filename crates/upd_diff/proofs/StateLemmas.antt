@@ -1,28 +1,23 @@
 -- What row changes do to statuses and counts: they delete the status rows of cards that are gone, and nothing else.
-use Rattle.std.proofs.Common.{◌≡◌, ℕ, zero, suc, Bool, true, false, cond, List, [], ◌∷◌, ◌++◌, slice_get, Option, Some, None, is_some}
-use Rattle.std.proofs.Common.{refl, ap, sym, ◌∙◌}
-use Rattle.std.specs.Prelude.{not, ◌||◌}
-use Rattle.std.specs.List.{filter, find, flat_map, list_any, AllByRecursion, Contains}
-use Rattle.std.proofs.lemmas.Option.{same_Some}
-use Rattle.upd_text.specs.declared.card_ref.CardRef.{CardRef}
-use Rattle.upd_core.specs.declared.ident.Ident.{Ident}
+use Rattle.upd_diff.proofs.Common.{◌≡◌, ℕ, zero, suc, Bool, true, false, cond, List, [], ◌∷◌, ◌++◌, slice_get, Some, refl, ap, sym, ◌∙◌, not, ◌||◌, filter}
+use Rattle.upd_diff.proofs.Common.{find, flat_map, list_any, AllByRecursion, Contains, same_Some, CardRef, Ident, CardView, DeckView, LibraryView, all_decks}
+use Rattle.upd_diff.proofs.Common.{is_deck, ref_of, Continues, IsSound, all_cards, at_contained, contained_at, Rows, same_ref, ChangeView, IdentNew}
+use Rattle.upd_diff.proofs.Common.{IdentPurged, CardNew, CardGone, CardsMoved, EntryNew, EntriesGone, TargetNew, TargetsGone, StatusNow, CountNow, done}
+use Rattle.upd_diff.proofs.Common.{done_all, CardDiffView, DeckDiffView, Kept, Gone, New, Lead, IsKept, card_after, card_before, TakeGone, row_changes_state}
+use Rattle.upd_diff.proofs.Common.{brought, card_changes, gone_of, ident_changes, moves, row_changes, same_ref_own}
+use Rattle.std.proofs.Common.{Option, None, is_some}
 use Rattle.upd_core.specs.declared.library.Place.{Place}
-use Rattle.upd_core.specs.Library.{CardView, DeckView, LibraryView, all_decks, card_in, is_deck, place_of, ref_of}
-use Rattle.upd_core.specs.Sound.{Continues, IsSound, all_cards}
+use Rattle.upd_core.specs.Library.{card_in, place_of}
 use Rattle.upd_core.specs.Status.{status_of}
-use Rattle.upd_core.proofs.ApartLemmas.{all_of_contained, at_contained, contained_at, find_at}
+use Rattle.upd_core.proofs.ApartLemmas.{all_of_contained, find_at}
 use Rattle.upd_core.proofs.FoundLemmas.{card_of_place, in_flat, status_at}
-use Rattle.upd_records.specs.Rows.{Rows, StateRow, same_ref}
-use Rattle.upd_records.specs.Changes.{ChangeView, IdentNew, IdentPurged, CardNew, CardGone, CardsMoved, EntryNew, EntriesGone, TargetNew, TargetsGone}
-use Rattle.upd_records.specs.Changes.{StatusNow, CountNow, done, done_all}
-use Rattle.upd_diff.specs.CardDiffs.{CardDiffView, DeckDiffView, Kept, Gone, New, Lead, IsKept, card_after, card_before}
-use Rattle.upd_diff.specs.States.{TakeGone, takes_card, row_changes_state}
-use Rattle.upd_diff.specs.RowChanges.{brought, card_changes, gone_of, ident_changes, moves, target_changes}
-use Rattle.upd_diff.specs.RowChanges.{row_changes}
+use Rattle.upd_records.specs.Rows.{StateRow}
+use Rattle.upd_diff.specs.States.{takes_card}
+use Rattle.upd_diff.specs.RowChanges.{target_changes}
 use Rattle.upd_diff.proofs.AllLemmas.{all_joined}
 use Rattle.upd_records.proofs.EffectLemmas.{any_append}
 use Rattle.upd_diff.proofs.KindLemmas.{idents_all, gone_each, moves_each, brought_each}
-use Rattle.upd_records.proofs.EqualLemmas.{same_ref_is, same_ref_own}
+use Rattle.upd_records.proofs.EqualLemmas.{same_ref_is}
 use Rattle.upd_diff.proofs.RowChangeLemmas.{after_is, all_kept, before_is, card_diffs, flat_twice, stay}
 
 -- ---- tests of some
@@ -100,7 +95,8 @@ no_card l r sound none = decks (all_decks l) (λ d is. is)
 
 -- ---- each card that is gone is deleted
 
-gone_changes : (idents : List Ident) (r : CardRef) (fs : List CardDiffView) → AllByRecursion IsKept fs → list_any (has_ref idents r) (flat_map card_before fs) ≡ true
+gone_changes : (idents : List Ident) (r : CardRef) (fs : List CardDiffView) → AllByRecursion IsKept fs → list_any (has_ref idents r) (flat_map card_before fs)
+    ≡ true
     → list_any (has_ref idents r) (flat_map card_after fs) ≡ false → list_any (takes_card r) (flat_map (gone_of idents) fs) ≡ true
 gone_changes idents r [] kept was is = absurd (cc)
 gone_changes idents r (Kept a b ∷ fs) kept was is =

@@ -1,24 +1,15 @@
 -- Cards that are looked for by ident and number, where no two have the same.
-use Rattle.std.proofs.Common.{◌≡◌, ℕ, zero, suc, ◌+◌, ◌<◌, ◌≤◌, Bool, true, false, ◌&&◌, ◌||◌}
-use Rattle.std.proofs.Common.{if◌then◌else◌, List, [], ◌∷◌, ◌++◌, map, length, drop, get_or, slice_get, Some, subst}
-use Rattle.std.proofs.Common.{refl, ap, sym, ◌∙◌, append_assoc, append-nil, arith, add-one}
-use Rattle.std.specs.Prelude.{◌==◌, not}
-use Rattle.std.specs.List.{list_any, flat_map, find, filter, AllByRecursion, Contains}
+use Rattle.upd_diff.proofs.Common.{◌≡◌, ℕ, zero, suc, ◌+◌, ◌<◌, ◌≤◌, Bool, true, false, List, [], ◌∷◌, ◌++◌, map, length, drop, get_or, slice_get, Some}
+use Rattle.upd_diff.proofs.Common.{subst, refl, ap, sym, ◌∙◌, append_assoc, append-nil, arith, ◌==◌, not, list_any, flat_map, find, filter, AllByRecursion}
+use Rattle.upd_diff.proofs.Common.{Contains, and_right, Decides-eqb, Entry, same_entry, IsOf, same_history, stood_in, touched_in, CardView, DeckView}
+use Rattle.upd_diff.proofs.Common.{LibraryView, is_deck, all_decks, ref_of, AreApart, AreRising, key_of, all_cards, at_contained, contained_at, rising_apart}
+use Rattle.upd_diff.proofs.Common.{CardDiffView, DeckDiffView, Kept, Gone, New, Lead, IsKept, card_before, deck_before, deck_after, has_cards, standing}
+use Rattle.upd_diff.proofs.Common.{same_Some, drop_more, drop_all, Ident, CardRef}
+use Rattle.std.proofs.Common.{◌&&◌, ◌||◌, if◌then◌else◌, add-one}
 use Rattle.std.specs.Option.{option_map_or}
-use Rattle.std.proofs.lemmas.Bool.{and_right}
-use Rattle.std.proofs.lemmas.Bool.Decides.{Decides-eqb}
-use Rattle.upd_core.specs.declared.card.Entry.{Entry}
-use Rattle.upd_core.specs.Entries.{same_entry}
-use Rattle.upd_diff.specs.Touched.{IsOf, same_history, stood_in, touched_in}
-use Rattle.upd_core.specs.Library.{CardView, DeckView, LibraryView, is_card, is_deck, all_decks, cards_of, ref_of}
-use Rattle.upd_core.specs.Sound.{AreApart, AreRising, key_of, all_cards}
-use Rattle.upd_core.proofs.ApartLemmas.{all_at, all_by_index, all_mapped, at_contained, contained_at, apart_front, apart_back, rising_apart}
+use Rattle.upd_core.specs.Library.{is_card, cards_of}
+use Rattle.upd_core.proofs.ApartLemmas.{all_at, all_by_index, all_mapped, apart_front, apart_back}
 use Rattle.upd_core.proofs.FoundLemmas.{cards_of_deck}
-use Rattle.upd_diff.specs.CardDiffs.{CardDiffView, DeckDiffView, Kept, Gone, New, Lead, IsKept, card_before, deck_before, deck_after, has_cards, standing}
-use Rattle.std.proofs.lemmas.Option.{same_Some}
-use Rattle.std.proofs.lemmas.List.{drop_more, drop_all}
-use Rattle.upd_core.specs.declared.ident.Ident.{Ident}
-use Rattle.upd_text.specs.declared.card_ref.CardRef.{CardRef}
 use Rattle.upd_diff.proofs.RowChangeLemmas.{same_standing}
 
 -- ---- tests on cards

@@ -1,3 +1,4 @@
+pub mod Common
 pub mod ToldLemmas
 mod WarningLemmas
 mod YankLemmas

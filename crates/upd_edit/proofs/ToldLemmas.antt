@@ -1,11 +1,13 @@
 -- What is made of the library that a desk returned is made of the library after each journal that its store holds.
-use Rattle.std.proofs.Common.{◌≡◌, inl, inr, Bool, true, false, nat_lt, length, List, [], ◌∷◌, ℕ, Option, Some, None, Result, Ok, Err, IsErrAnd, sym, subst, rules}
+use Rattle.upd_edit.proofs.Common.{◌≡◌, Bool, true, false, length, List, [], ◌∷◌, ℕ, Some, None, Ok, Err, sym, subst, rules, LibraryView, check_arrival}
+use Rattle.upd_edit.proofs.Common.{source, tried}
+use Rattle.std.proofs.Common.{inl, inr, nat_lt, Option, Result, IsErrAnd}
 use Rattle.std.specs.Result.{result_map_both}
 use Rattle.upd_text.specs.declared.fault.Fault.{Fault}
 use Rattle.upd_text.specs.declared.fault.FaultKind.TheVariants.{BadMode, DeckUnknown, RunLong}
 use Rattle.upd_text.specs.declared.limits.TheConstants.{MAX_RUN_BYTES}
 use Rattle.upd_text.specs.Outcome.{◌>>=◌, at_line, need, refuse_if}
-use Rattle.upd_core.specs.Library.{LibraryView, deck_of}
+use Rattle.upd_core.specs.Library.{deck_of}
 use Rattle.upd_core.specs.Actives.{actives_of}
 use Rattle.upd_compile.specs.File.{compile_file_of}
 use Rattle.upd_compile.specs.declared.mode.Mode.TheVariants.{Quick}
@@ -13,14 +15,11 @@ use Rattle.upd_compile.specs.Modes.{mode_named}
 use Rattle.upd_compile.specs.declared.mode.Mode.{Mode}
 use Rattle.upd_row_store.specs.declared.meaning.Meaning.{Ghosts}
 use Rattle.upd_row_store.specs.Keeping.{IsLost}
-use Rattle.upd_desk.specs.Arrivals.{check_arrival}
 use Rattle.upd_desk.specs.Holding.{EachHeld, IsOwed, Tells, is_lost}
 use Rattle.upd_desk.specs.Journal.{library_after}
 use Rattle.upd_desk.specs.Made.{IsMade}
 use Rattle.upd_desk.proofs.MadeLemmas.{library_made}
 use Rattle.upd_desk.proofs.QueryLemmas.{compile_keeps}
-use Rattle.upd_edit.specs.Source.{source}
-use Rattle.upd_edit.specs.Trying.{tried}
 
 module _ {S : Type 0} (meaning : Ghosts S) where
   -- an answer that is right of the library that was returned

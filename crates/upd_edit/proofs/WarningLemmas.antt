@@ -1,10 +1,10 @@
 -- How a card is found to be off.
-use Rattle.std.proofs.Common.{◌≡◌, ◌∙◌, ap, subst, if◌then◌else◌, Some, None}
+use Rattle.upd_edit.proofs.Common.{◌≡◌, ◌∙◌, ap, subst, if◌then◌else◌, Some, None, LibraryView, name_of}
 use Rattle.std.specs.Option.{option_and_then}
 use Rattle.upd_text.specs.declared.card_ref.CardRef.{CardRef}
 use Rattle.upd_core.specs.declared.card.Entry.{Entry}
 use Rattle.upd_core.specs.declared.library.Place.{Place}
-use Rattle.upd_core.specs.Library.{CardView, LibraryView, card_in, name_of, place_of}
+use Rattle.upd_core.specs.Library.{CardView, card_in, place_of}
 use Rattle.upd_core.specs.Status.{LiveView, live_of}
 use Rattle.upd_edit.specs.Warnings.{last_entry, off_by, switched_off_by}
 

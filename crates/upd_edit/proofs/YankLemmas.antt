@@ -1,7 +1,7 @@
 -- A search among neighbours.
-use Rattle.std.proofs.Common.{◌≡◌, ℕ, ◌+◌, ◌<◌, ◌≤◌, Bool, true, false, if◌then◌else◌, List, [], ◌∷◌, length, drop, get_or, Some, None, refl, sym, ap, ◌∙◌}
+use Rattle.upd_edit.proofs.Common.{◌≡◌, ℕ, ◌+◌, Bool, true, false, if◌then◌else◌, List, [], ◌∷◌, length, drop, Some, None, sym, ap, ◌∙◌, find, zip}
+use Rattle.std.proofs.Common.{◌<◌, ◌≤◌, get_or, refl}
 use Rattle.std.proofs.lemmas.List.{drop_all, drop_more}
-use Rattle.std.specs.List.{find, zip}
 
 next_is : {X : Type 0} (xs : List X) (i : ℕ) (x : X) → i < length xs → x ≡ get_or xs i x → drop i xs ≡ x ∷ drop (i + 1) xs
 next_is xs i x less is = drop_more xs i x less ∙ ap (λ v. v ∷ drop (i + 1) xs) (sym is)

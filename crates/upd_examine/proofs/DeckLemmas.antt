@@ -1,15 +1,12 @@
 -- Held idents at their indices, and the decks of a library as those that its directory holds.
-use Rattle.std.proofs.Common.{◌≡◌, ℕ, zero, suc, ◌+◌, ◌-◌, ◌<◌, ◌≤◌, Bool, true, false, ◌&&◌, List, [], ◌∷◌, map, slice_get, cond}
-use Rattle.std.proofs.Common.{refl, sym, ap, ◌∙◌, subst, arith, inl, inr}
-use Rattle.std.specs.Prelude.{◌==◌, ◌||◌, ◌⊎◌, IsTrue}
+use Rattle.upd_examine.proofs.Common.{◌≡◌, ℕ, zero, suc, ◌+◌, ◌-◌, ◌<◌, ◌≤◌, Bool, true, false, ◌&&◌, List, [], ◌∷◌, map, cond, refl, sym, ap, ◌∙◌, subst}
+use Rattle.upd_examine.proofs.Common.{arith, inl, inr, ◌==◌, ◌||◌, ◌⊎◌, IsTrue, or_right, or_cases, eqb-true, eq-eqb, filter, list_any, AllByRecursion, Ident}
+use Rattle.upd_examine.proofs.Common.{DeckView, is_deck, AreAgedFrom, is_held, held_at, held_decks, weaker}
+use Rattle.std.proofs.Common.{slice_get}
 use Rattle.std.specs.Option.{option_map_or}
-use Rattle.std.proofs.lemmas.Bool.{and_right, or_from, or_left, or_right, or_cases, eqb-true, eqb-false, eq-eqb, ne_eqb}
-use Rattle.std.specs.List.{filter, list_any, AllByRecursion}
-use Rattle.upd_core.specs.declared.ident.Ident.{Ident}
-use Rattle.upd_core.specs.Library.{DeckView, is_deck, is_deck_kind}
-use Rattle.upd_core.specs.Sound.{AreAgedFrom, AreRising, is_held, is_held_deck}
-use Rattle.upd_examine.specs.SoundTests.{held_at, held_decks}
-use Rattle.upd_row_store.proofs.SortLemmas.{weaker}
+use Rattle.std.proofs.lemmas.Bool.{and_right, or_from, or_left, eqb-false, ne_eqb}
+use Rattle.upd_core.specs.Library.{is_deck_kind}
+use Rattle.upd_core.specs.Sound.{AreRising, is_held_deck}
 
 -- ---- held idents at their indices
 

@@ -1,21 +1,13 @@
 -- The library that rows make decides about them: where they are those of a sound, whole library, it is that one.
-use Rattle.std.proofs.Common.{◌≡◌, ℕ, ◌+◌, ◌<◌, ◌≤◌, ◌^◌, Bool, true, false, ◌&&◌, nat_le, List, length, sum_by, refl, sym, ap, ◌∙◌, subst, arith}
-use Rattle.std.specs.Prelude.{◌↔◌, IsTrue}
-use Rattle.std.proofs.lemmas.Bool.{and_parts, and_from}
+use Rattle.upd_examine.proofs.Common.{◌≡◌, ℕ, ◌+◌, ◌<◌, ◌≤◌, Bool, true, false, ◌&&◌, List, length, refl, sym, ap, ◌∙◌, subst, arith, ◌↔◌, IsTrue, and_parts}
+use Rattle.upd_examine.proofs.Common.{and_from, DeckView, LibraryView, is_within_limits, IsSound, IsWhole, States, same_of, IsSame, MarkRow, Rows, RunView}
+use Rattle.upd_examine.proofs.Common.{rows_of, LibraryRows, AreRowsOf, AreStatesOf, AreLibraryRows, AreSoundRows, AreRunsSound}
+use Rattle.std.proofs.Common.{◌^◌, nat_le, sum_by}
 use Rattle.std.proofs.lemmas.Bool.Decides.{nat_tests}
 use Rattle.std.proofs.lemmas.List.Sums.{sum_by-cons}
 use Rattle.upd_text.specs.declared.limits.TheConstants.{MAX_CARDS, MAX_ENTRIES, MAX_HELD, MAX_INTRODUCED, MAX_TARGETS}
-use Rattle.upd_core.specs.Library.{DeckView, LibraryView}
-use Rattle.upd_core.specs.Limits.{card_count, entry_count, held_count, is_within_limits, target_count}
-use Rattle.upd_core.specs.Sound.{IsSound, IsWhole}
-use Rattle.upd_core.specs.declared.states.States.{States}
-use Rattle.upd_records.proofs.CountLemmas.{same_of}
-use Rattle.upd_records.specs.Rows.{IsSame, MarkRow, Rows, RunView, Shows, rows_of}
-use Rattle.upd_records.specs.declared.rows.LibraryRows.{LibraryRows}
-use Rattle.upd_row_store.specs.Assembling.{AreRowsOf}
-use Rattle.upd_yank.specs.Right.{AreStatesOf}
-use Rattle.upd_examine.specs.Findings.{AreLibraryRows, AreSoundRows}
-use Rattle.upd_examine.specs.RunForms.{AreRunsSound}
+use Rattle.upd_core.specs.Limits.{card_count, entry_count, held_count, target_count}
+use Rattle.upd_records.specs.Rows.{Shows}
 
 -- the cards of `YANK$$$` are few
 few_yanks : (l : LibraryView) → is_within_limits l ≡ true → length l.yanks < 2 ^ 32

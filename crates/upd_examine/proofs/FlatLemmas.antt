@@ -1,11 +1,7 @@
 -- What the cards of all decks have, deck by deck.
-use Rattle.std.proofs.Common.{◌≡◌, List, [], ◌∷◌, ◌++◌, refl, sym, ap, ◌∙◌}
+use Rattle.upd_examine.proofs.Common.{◌≡◌, List, [], ◌∷◌, ◌++◌, refl, sym, ap, ◌∙◌, flat_map, Ident, CardView, DeckView, LibraryView, all_decks, ref_of}
+use Rattle.upd_examine.proofs.Common.{all_cards, EntryRow, TargetRow, entry_rows, rows_of, target_rows}
 use Rattle.std.proofs.lemmas.Grind.{flat_map-append}
-use Rattle.std.specs.List.{flat_map}
-use Rattle.upd_core.specs.declared.ident.Ident.{Ident}
-use Rattle.upd_core.specs.Library.{CardView, DeckView, LibraryView, all_decks, ref_of}
-use Rattle.upd_core.specs.Sound.{all_cards}
-use Rattle.upd_records.specs.Rows.{EntryRow, TargetRow, entry_rows, rows_of, target_rows}
 
 flat_twice : {A : Type 0} (f : CardView → List A) (ds : List DeckView) → flat_map (λ d. flat_map f d.cards) ds ≡ flat_map f (flat_map (λ d. d.cards) ds)
 flat_twice f [] = refl

@@ -1,20 +1,16 @@
 -- Rows as pairs: the order of pairs tells all of them apart, and each pair has its row.
-use Rattle.std.proofs.Common.{◌≡◌, ℕ, zero, suc, Bool, true, false, refl, sym, ap, ◌∙◌, nat_cmp}
-use Rattle.std.proofs.lemmas.Map.Lookups.{CmpEqualImpliesEq, exact_bytes, exact_pairs, exact_unsigned}
-use Rattle.std.specs.Cmp.Lexicographic.{slice_cmp}
-use Rattle.std.specs.Ordering.{bool_cmp, is_eq, ordering_then}
-use Rattle.std.specs.declared.cmp.Ordering.{Ordering}
-use Rattle.std.specs.declared.cmp.Ordering.TheVariants.{Equal}
+use Rattle.upd_examine.proofs.Common.{◌≡◌, ℕ, zero, suc, Bool, true, false, refl, sym, ap, ◌∙◌, nat_cmp, CmpEqualImpliesEq, exact_bytes, exact_pairs}
+use Rattle.upd_examine.proofs.Common.{exact_unsigned, slice_cmp, is_eq, ordering_then, Ordering, Equal, CardRef, same_target, Ident, EntryRow, TargetRow}
+use Rattle.upd_examine.proofs.Common.{ident_key}
+use Rattle.std.specs.Ordering.{bool_cmp}
 use Rattle.upd_text.proofs.OrderLemmas.{by_name-exact}
 use Rattle.upd_text.specs.Order.{by_name}
-use Rattle.upd_text.specs.declared.card_ref.CardRef.{CardRef}
-use Rattle.upd_core.proofs.CountedLemmas.{same_by_order, same_target}
+use Rattle.upd_core.proofs.CountedLemmas.{same_by_order}
 use Rattle.upd_core.specs.Order.{target_order}
-use Rattle.upd_core.specs.declared.ident.Ident.{Ident}
 use Rattle.upd_core.specs.declared.ident.Kind.{Kind}
 use Rattle.upd_core.specs.declared.ident.Kind.TheVariants.{Set, Deck, Common}
-use Rattle.upd_records.specs.Rows.{CardRow, EntryRow, TargetRow}
-use Rattle.upd_examine.specs.RowKeys.{CardKey, EntryKey, IdentKey, TargetRowKey, ident_key, kind_number}
+use Rattle.upd_records.specs.Rows.{CardRow}
+use Rattle.upd_examine.specs.RowKeys.{CardKey, EntryKey, IdentKey, TargetRowKey, kind_number}
 
 exact_bools : CmpEqualImpliesEq bool_cmp
 exact_bools true true e = refl

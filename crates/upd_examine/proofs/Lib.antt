@@ -1,3 +1,4 @@
+pub mod Common
 pub mod TestLemmas
 pub mod DeckLemmas
 pub mod SortedLemmas

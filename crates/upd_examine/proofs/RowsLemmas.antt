@@ -1,15 +1,6 @@
 -- What tests of rows decide together.
-use Rattle.std.proofs.Common.{◌≡◌, Bool, ◌&&◌, List, sym, ◌∙◌, subst}
-use Rattle.std.specs.Prelude.{◌↔◌, IsTrue}
-use Rattle.std.proofs.lemmas.Bool.{and_parts, and_from}
-use Rattle.upd_core.specs.Library.{LibraryView}
-use Rattle.upd_core.specs.Limits.{is_within_limits}
-use Rattle.upd_core.specs.Sound.{IsSound, IsWhole}
-use Rattle.upd_records.specs.Rows.{IsSame, Rows, rows_of}
-use Rattle.upd_records.specs.declared.rows.LibraryRows.{LibraryRows}
-use Rattle.upd_row_store.specs.Assembling.{AreRowsOf}
-use Rattle.upd_examine.specs.Findings.{AreLibraryRows}
-use Rattle.upd_examine.specs.TextTests.{has_line_texts}
+use Rattle.upd_examine.proofs.Common.{◌≡◌, Bool, ◌&&◌, List, sym, ◌∙◌, subst, ◌↔◌, IsTrue, and_parts, and_from, LibraryView, is_within_limits, IsSound}
+use Rattle.upd_examine.proofs.Common.{IsWhole, IsSame, Rows, rows_of, LibraryRows, AreRowsOf, AreLibraryRows, has_line_texts}
 use Rattle.upd_examine.proofs.TextLemmas.{texts_decided}
 
 -- a test of two lists is one of those that they are

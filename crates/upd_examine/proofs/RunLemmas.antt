@@ -1,16 +1,12 @@
 -- What tests of stored runs and marks decide together.
-use Rattle.std.proofs.Common.{◌≡◌, ℕ, ◌+◌, ◌<◌, Bool, ◌&&◌, List, ◌∷◌, map, length, drop, get_or, sym, ap, ◌∙◌, subst}
-use Rattle.std.specs.Prelude.{◌↔◌, IsTrue}
-use Rattle.std.proofs.lemmas.Bool.{and_parts, and_from}
+use Rattle.upd_examine.proofs.Common.{◌≡◌, ℕ, ◌+◌, ◌<◌, Bool, ◌&&◌, List, ◌∷◌, map, length, drop, get_or, sym, ap, ◌∙◌, subst, ◌↔◌, IsTrue, and_parts}
+use Rattle.upd_examine.proofs.Common.{and_from, list_all, Bytes, AreApart, MarkRow, RunView, AreRunsSound, is_run_right, run_key}
 use Rattle.std.proofs.lemmas.List.{drop_more}
-use Rattle.std.specs.List.{list_all}
-use Rattle.upd_text.specs.Units.{Bytes}
-use Rattle.upd_core.specs.Sound.{AreApart}
-use Rattle.upd_records.specs.Rows.{MarkRow, RunView}
-use Rattle.upd_examine.specs.RunForms.{AreRunsSound, is_key, is_run_right, run_key}
+use Rattle.upd_examine.specs.RunForms.{is_key}
 
 pub runs_decided : (runs : List RunView) (marks : List MarkRow) {sites : List Bytes} {keys : List (Bytes × ℕ)} {m a b c : Bool}
-    → m ≡ list_all (λ m. is_key m.site m.mark) marks → sites ≡ map (λ m. m.site) marks → keys ≡ map run_key runs → (IsTrue a ↔ AreApart sites) → (IsTrue b ↔ AreApart keys)
+    → m ≡ list_all (λ m. is_key m.site m.mark) marks → sites ≡ map (λ m. m.site) marks → keys ≡ map run_key runs → (IsTrue a ↔ AreApart sites)
+    → (IsTrue b ↔ AreApart keys)
     → c ≡ list_all (is_run_right marks) runs → IsTrue (m && (a && (b && c))) ↔ AreRunsSound runs marks
 runs_decided runs marks {sites} {keys} {m} {a} {b} {c} are_marked are_sites are_keys one two each = (
   (λ t.

@@ -1,19 +1,10 @@
 -- Sorted lists that have the same elements are the same list.
-use Rattle.std.proofs.Common.{◌≡◌, ℕ, suc, ◌<◌, ◌≤◌, Bool, true, false, cond, List, [], ◌∷◌, length, get_or, map}
-use Rattle.std.proofs.Common.{refl, sym, ap, ◌∙◌, subst, arith, IsPermutation}
-use Rattle.std.specs.Prelude.{◌↔◌, IsTrue}
+use Rattle.upd_examine.proofs.Common.{◌≡◌, ℕ, suc, ◌<◌, ◌≤◌, Bool, true, false, cond, List, [], ◌∷◌, length, get_or, map, refl, sym, ap, ◌∙◌, subst, arith}
+use Rattle.upd_examine.proofs.Common.{IsPermutation, ◌↔◌, IsTrue, CmpEqualImpliesEq, IsTotalOrder, slice_cmp, count_by, AllByRecursion, IsSorted, is_eq}
+use Rattle.upd_examine.proofs.Common.{is_lt, ordering_reverse, ordering_then, Ordering, Less, Equal, Greater, count_cons, IsSame}
 use Rattle.std.proofs.lemmas.List.MinMax.{ranks_by}
 use Rattle.std.proofs.lemmas.List.Sorted.{sorted_far}
-use Rattle.std.proofs.lemmas.Map.Lookups.{CmpEqualImpliesEq}
-use Rattle.std.specs.Cmp.{IsTotalOrder}
-use Rattle.std.specs.Cmp.Lexicographic.{slice_cmp}
-use Rattle.std.specs.List.{count_by, AllByRecursion}
-use Rattle.std.specs.List.Sorted.{IsSorted}
-use Rattle.std.specs.Ordering.{is_eq, is_lt, ordering_reverse, ordering_then}
-use Rattle.std.specs.declared.cmp.Ordering.{Ordering}
-use Rattle.std.specs.declared.cmp.Ordering.TheVariants.{Less, Equal, Greater}
-use Rattle.upd_records.proofs.CountLemmas.{count_cons, same_map, same_trans}
-use Rattle.upd_records.specs.Rows.{IsSame}
+use Rattle.upd_records.proofs.CountLemmas.{same_map, same_trans}
 use Rattle.upd_row_store.proofs.SortLemmas.{all_counted, one_passes, same_permuted}
 use Rattle.upd_examine.proofs.SortedLemmas.{itself, same_is}
 

@@ -1,17 +1,9 @@
 -- Lists whose elements differ: in each order, and in the order of a sort.
-use Rattle.std.proofs.Common.{◌≡◌, ℕ, zero, suc, ◌+◌, ◌<◌, ◌≤◌, Bool, true, false, cond, List, [], ◌∷◌, length, get_or}
-use Rattle.std.proofs.Common.{refl, sym, ap, ◌∙◌, subst, arith, add-one, IsPermutation}
+use Rattle.upd_examine.proofs.Common.{◌≡◌, ℕ, zero, suc, ◌+◌, ◌<◌, ◌≤◌, Bool, true, false, cond, List, [], ◌∷◌, length, get_or, refl, sym, ap, ◌∙◌, subst}
+use Rattle.upd_examine.proofs.Common.{arith, IsPermutation, CmpEqualImpliesEq, IsTotalOrder, count_by, AllByRecursion, IsSorted, is_eq, is_lt}
+use Rattle.upd_examine.proofs.Common.{ordering_reverse, Ordering, Less, Equal, Greater, AreApart, count_cons, weaker}
+use Rattle.std.proofs.Common.{add-one}
 use Rattle.std.proofs.lemmas.List.Sorted.{sum_by-IsPermutation}
-use Rattle.std.proofs.lemmas.Map.Lookups.{CmpEqualImpliesEq}
-use Rattle.std.specs.Cmp.{IsTotalOrder}
-use Rattle.std.specs.List.{count_by, AllByRecursion}
-use Rattle.std.specs.List.Sorted.{IsSorted}
-use Rattle.std.specs.Ordering.{is_eq, is_lt, ordering_reverse}
-use Rattle.std.specs.declared.cmp.Ordering.{Ordering}
-use Rattle.std.specs.declared.cmp.Ordering.TheVariants.{Less, Equal, Greater}
-use Rattle.upd_core.specs.Sound.{AreApart}
-use Rattle.upd_records.proofs.CountLemmas.{count_cons}
-use Rattle.upd_row_store.proofs.SortLemmas.{weaker}
 
 pub same_is : {A : Type 0} (R : A → A → Ordering) → CmpEqualImpliesEq R → (a b : A) → is_eq (R a b) ≡ true → a ≡ b
 same_is R exact a b e = go (R a b) refl e

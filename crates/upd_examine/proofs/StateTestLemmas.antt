@@ -1,16 +1,7 @@
 -- What tests of stored statuses and counts decide together.
-use Rattle.std.proofs.Common.{◌≡◌, ℕ, Bool, ◌&&◌, List, map, sym, ◌∙◌, subst}
-use Rattle.std.specs.Prelude.{◌↔◌, ◌==◌, IsTrue}
-use Rattle.std.proofs.lemmas.Bool.{and_parts, and_from}
-use Rattle.std.specs.List.{list_all}
-use Rattle.upd_core.specs.Library.{CardView, LibraryView}
-use Rattle.upd_core.specs.Sound.{AreApart, IsSound}
-use Rattle.upd_core.specs.TargetCounts.{count_in}
-use Rattle.upd_core.specs.declared.states.States.{States}
-use Rattle.upd_core.specs.declared.target.Target.{Target}
-use Rattle.upd_records.specs.Rows.{IsSame}
-use Rattle.upd_yank.specs.Right.{AreStatesOf, CacheView, IsRight, put_counts}
-use Rattle.upd_examine.specs.StateTests.{AreCounts, is_count, is_counted, own_states}
+use Rattle.upd_examine.proofs.Common.{◌≡◌, ℕ, Bool, ◌&&◌, List, map, sym, ◌∙◌, subst, ◌↔◌, ◌==◌, IsTrue, and_parts, and_from, list_all, CardView, LibraryView}
+use Rattle.upd_examine.proofs.Common.{AreApart, IsSound, count_in, States, Target, IsSame, AreStatesOf, CacheView, IsRight, put_counts, AreCounts, is_count}
+use Rattle.upd_examine.proofs.Common.{is_counted, own_states}
 use Rattle.upd_examine.proofs.StoredCountLemmas.{counts_decided}
 use Rattle.upd_examine.proofs.StoredStateLemmas.{statuses_decided}
 

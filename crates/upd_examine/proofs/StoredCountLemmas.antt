@@ -1,20 +1,15 @@
 -- Stored counts are those of a library exactly where they pass the tests of their targets.
-use Rattle.std.proofs.Common.{◌≡◌, ℕ, ◌+◌, ◌≤◌, Bool, true, false, not, ◌||◌, cond, if◌then◌else◌, List, [], ◌∷◌, map, length}
-use Rattle.std.proofs.Common.{refl, ap, sym, ◌∙◌, subst, arith}
-use Rattle.std.specs.Prelude.{◌↔◌, ◌==◌}
-use Rattle.std.proofs.lemmas.Bool.{and_parts, and_from, eqb-true, eq-eqb}
-use Rattle.std.specs.List.{filter, list_all, list_any, AllByRecursion}
-use Rattle.upd_core.proofs.CountedLemmas.{same_target, target_same}
-use Rattle.upd_core.specs.Library.{CardView, LibraryView}
-use Rattle.upd_core.specs.Sound.{AreApart}
+use Rattle.upd_examine.proofs.Common.{◌≡◌, ℕ, ◌+◌, ◌≤◌, Bool, true, false, not, cond, if◌then◌else◌, List, [], ◌∷◌, map, length, refl, ap, sym, ◌∙◌, subst}
+use Rattle.upd_examine.proofs.Common.{arith, ◌↔◌, ◌==◌, and_parts, and_from, eqb-true, eq-eqb, filter, list_all, list_any, AllByRecursion, same_target}
+use Rattle.upd_examine.proofs.Common.{CardView, LibraryView, AreApart, count_in, live_count, is_same, Target, CacheView, IsRight, put_counts, AreCounts}
+use Rattle.upd_examine.proofs.Common.{is_count, is_counted}
+use Rattle.std.proofs.Common.{◌||◌}
+use Rattle.upd_core.proofs.CountedLemmas.{target_same}
 use Rattle.upd_core.specs.Status.{is_good, live_cards, targets_of}
-use Rattle.upd_core.specs.TargetCounts.{count_in, count_on, has_target, live_count}
-use Rattle.upd_core.specs.Targets.{is_same}
-use Rattle.upd_core.specs.declared.target.Target.{Target}
+use Rattle.upd_core.specs.TargetCounts.{count_on, has_target}
 use Rattle.upd_yank.proofs.FlipLemmas.{count_cons}
 use Rattle.upd_yank.proofs.RowLemmas.{count_put}
-use Rattle.upd_yank.specs.Right.{CacheView, IsRight, count_pairs, put_counts}
-use Rattle.upd_examine.specs.StateTests.{AreCounts, is_count, is_counted}
+use Rattle.upd_yank.specs.Right.{count_pairs}
 
 abbrev has : Target → Target × ℕ → Bool
 has t p = is_same t p.0
@@ -179,7 +174,8 @@ module _ (l : LibraryView) (cache : CacheView) (right : IsRight l cache) (stored
       go true e = refl
       go false e =
           and_from (is_count counts (t, live_count l t)) true
-          (and_from (not (live_count l t == 0)) (live_count l t == count_in counts t) (ap not e) (eq-eqb (live_count l t) (count_in counts t) (sym (right.count t))))
+          (and_from (not (live_count l t == 0)) (live_count l t == count_in counts t) (ap not e)
+          (eq-eqb (live_count l t) (count_in counts t) (sym (right.count t))))
           refl
 
   to_tests : ((t : Target) → filter (has t) stored ≡ count_pairs t (live_count l t)) → AreCounts counts stored l.yanks

@@ -1,25 +1,21 @@
 -- Stored statuses are those of a library exactly where they are the pairs of its cards, each as often.
-use Rattle.std.proofs.Common.{◌≡◌, ℕ, Bool, true, false, not, ◌&&◌, ◌||◌, cond, List, [], ◌∷◌, map, Option, Some, None}
-use Rattle.std.proofs.Common.{refl, ap, sym, ◌∙◌, subst, arith}
-use Rattle.std.specs.Prelude.{◌↔◌, unwrap_or}
-use Rattle.std.specs.List.{filter, list_any, AllByRecursion}
-use Rattle.upd_text.specs.declared.card_ref.CardRef.{CardRef}
+use Rattle.upd_examine.proofs.Common.{◌≡◌, ℕ, Bool, true, false, not, ◌&&◌, cond, List, [], ◌∷◌, map, None, refl, ap, sym, ◌∙◌, subst, arith, ◌↔◌, filter}
+use Rattle.upd_examine.proofs.Common.{list_any, AllByRecursion, CardRef, LibraryView, AreApart, IsSound, live_count, count_cons, same_of, IsSame, CacheView}
+use Rattle.upd_examine.proofs.Common.{IsRight, own_state, own_states}
+use Rattle.std.proofs.Common.{◌||◌, Option, Some}
+use Rattle.std.specs.Prelude.{unwrap_or}
 use Rattle.upd_core.proofs.FoundLemmas.{refs_apart}
 use Rattle.upd_core.specs.Counted.{CountedCardView, counted_cards}
-use Rattle.upd_core.specs.Library.{LibraryView}
-use Rattle.upd_core.specs.Sound.{AreApart, IsSound}
 use Rattle.upd_core.specs.Status.{status_of}
-use Rattle.upd_core.specs.TargetCounts.{live_count}
-use Rattle.upd_records.proofs.CountLemmas.{count_cons, same_filter, same_of}
-use Rattle.upd_records.specs.Rows.{IsSame, same_ref}
+use Rattle.upd_records.proofs.CountLemmas.{same_filter}
+use Rattle.upd_records.specs.Rows.{same_ref}
 use Rattle.upd_records.proofs.EqualLemmas.{same_ref_is, same_ref_own}
 use Rattle.upd_yank.proofs.RefLemmas.{same_ref_sym}
 use Rattle.upd_yank.proofs.StateLemmas.{statuses_are, status_there}
 use Rattle.upd_yank.proofs.WholeLemmas.{refs_of_cards}
 use Rattle.upd_yank.proofs.WorkLemmas.{HasStatus}
 use Rattle.upd_yank.specs.Cascade.{is_active_by}
-use Rattle.upd_yank.specs.Right.{CacheView, IsRight, status_pairs}
-use Rattle.upd_examine.specs.StateTests.{own_state, own_states}
+use Rattle.upd_yank.specs.Right.{status_pairs}
 use Rattle.upd_records.proofs.ByKeyLemmas.{same_by_key}
 
 -- ---- lists of one element at most

@@ -1,20 +1,14 @@
 -- Each test of a library's parts decides what the invariant says of it.
-use Rattle.std.proofs.Common.{◌≡◌, ℕ, ◌+◌, ◌≤◌, max, Bool, true, ◌&&◌, List, [], ◌∷◌}
-use Rattle.std.proofs.Common.{refl, arith}
-use Rattle.std.specs.Prelude.{◌↔◌, ◌==◌, nat_le, nat_lt}
-use Rattle.std.proofs.lemmas.Bool.{and_parts, and_from, eqb-true, eq-eqb, leb-true, le-leb, ltb-true, lt-ltb}
-use Rattle.std.specs.List.{list_all, flat_map, AllByRecursion}
+use Rattle.upd_examine.proofs.Common.{◌≡◌, ℕ, ◌+◌, ◌≤◌, Bool, true, ◌&&◌, List, [], ◌∷◌, refl, arith, ◌↔◌, ◌==◌, nat_le, nat_lt, and_parts, and_from}
+use Rattle.upd_examine.proofs.Common.{eqb-true, eq-eqb, leb-true, le-leb, ltb-true, lt-ltb, list_all, flat_map, AllByRecursion, Entry, Ident, Target, Set}
+use Rattle.upd_examine.proofs.Common.{CardView, DeckView, AreAgedFrom, BeginsOn, BeginsWithItsOwn, HasEntriesFrom, weaker, are_aged_from, are_yanks_from}
+use Rattle.upd_examine.proofs.Common.{begins_on, begins_with_its_own}
+use Rattle.std.proofs.Common.{max}
 use Rattle.upd_core.proofs.ApartLemmas.{all_front, all_back}
-use Rattle.upd_core.specs.declared.card.Entry.{Entry}
-use Rattle.upd_core.specs.declared.ident.Ident.{Ident}
-use Rattle.upd_core.specs.declared.target.Target.{Target}
-use Rattle.upd_core.specs.declared.target.Target.TheVariants.{Set, SetIn, Deck}
-use Rattle.upd_core.specs.Library.{CardView, DeckView}
-use Rattle.upd_core.specs.Sound.{AreAgedFrom, BeginsOn, BeginsWithItsOwn}
-use Rattle.upd_core.specs.Status.{HasEntriesFrom, IsAged, IsOlder, TakesOlder}
+use Rattle.upd_core.specs.declared.target.Target.TheVariants.{SetIn, Deck}
+use Rattle.upd_core.specs.Status.{IsAged, IsOlder, TakesOlder}
 use Rattle.upd_diff.proofs.AllLemmas.{all_joined}
-use Rattle.upd_row_store.proofs.SortLemmas.{weaker}
-use Rattle.upd_examine.specs.SoundTests.{are_aged_from, are_yanks_from, begins_on, begins_with_its_own, has_entries_from, is_older, takes_older}
+use Rattle.upd_examine.specs.SoundTests.{has_entries_from, is_older, takes_older}
 
 -- a test of each element decides what holds of each
 pub all_decided : {A : Type 0} (test : A → Bool) (P : A → Type 0) → ((x : A) → (test x ≡ true) ↔ P x) → (xs : List A)

@@ -1,15 +1,11 @@
 -- Tests of names, texts and numbers decide whether these are those of runs.
-use Rattle.std.proofs.Common.{◌≡◌, ℕ, ◌<◌, ◌≤◌, true, ◌&&◌, List, length}
-use Rattle.std.specs.Prelude.{◌↔◌, IsTrue, nat_le, nat_lt}
-use Rattle.std.proofs.lemmas.Bool.{and_parts, and_from, leb-true, le-leb, ltb-true, lt-ltb}
-use Rattle.std.specs.List.{list_all, AllByRecursion}
+use Rattle.upd_examine.proofs.Common.{◌≡◌, ℕ, ◌<◌, ◌≤◌, true, ◌&&◌, List, length, ◌↔◌, IsTrue, nat_le, nat_lt, and_parts, and_from, leb-true, le-leb}
+use Rattle.upd_examine.proofs.Common.{ltb-true, lt-ltb, list_all, AllByRecursion, Bytes, CardView, DeckView, LibraryView, all_decks, has_line_texts}
 use Rattle.upd_text.specs.Names.{is_name}
-use Rattle.upd_text.specs.Units.{Bytes}
 use Rattle.upd_text.specs.declared.limits.TheConstants.{MAX_LINE_BYTES, MAX_RUN_LINES}
-use Rattle.upd_core.specs.Library.{CardView, DeckView, LibraryView, all_decks}
 use Rattle.upd_deck.specs.Reading.{is_allowed}
 use Rattle.upd_laws.specs.ReadRuns.{HasLineTexts, IsLineText, IsOfRun}
-use Rattle.upd_examine.specs.TextTests.{has_line_texts, is_card_of_run, is_line_text, is_number_of_run}
+use Rattle.upd_examine.specs.TextTests.{is_card_of_run, is_line_text, is_number_of_run}
 use Rattle.upd_examine.proofs.TestLemmas.{all_decided, all_flat}
 
 text_decided : (text : Bytes) → (is_line_text text ≡ true) ↔ IsLineText text

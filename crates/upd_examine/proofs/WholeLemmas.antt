@@ -1,19 +1,13 @@
 -- The tests of the parts of a library decide whether it is sound and whole.
-use Rattle.std.proofs.Common.{◌≡◌, ℕ, ◌<◌, ◌≤◌, inl, inr, Bool, true, ◌&&◌, List, [], ◌∷◌, length, map, None, refl, sym, ap, ◌∙◌, arith}
-use Rattle.std.specs.Prelude.{◌↔◌, ◌==◌, ◌||◌, ◌⊎◌, IsTrue}
-use Rattle.std.proofs.lemmas.Bool.{and_parts, and_from, eqb-true, eq-eqb, or_cases, or_right}
-use Rattle.std.specs.List.{filter, list_all, list_any, AllByRecursion}
+use Rattle.upd_examine.proofs.Common.{◌≡◌, ℕ, ◌<◌, ◌≤◌, inl, inr, Bool, true, ◌&&◌, List, [], ◌∷◌, length, map, None, refl, sym, ap, ◌∙◌, arith, ◌↔◌, ◌==◌}
+use Rattle.upd_examine.proofs.Common.{◌||◌, ◌⊎◌, IsTrue, and_parts, and_from, eqb-true, eq-eqb, or_cases, or_right, filter, list_all, list_any}
+use Rattle.upd_examine.proofs.Common.{AllByRecursion, Entry, Ident, Target, CardView, DeckView, LibraryView, all_decks, is_deck, AreAgedFrom, AreApart}
+use Rattle.upd_examine.proofs.Common.{BeginsOn, BeginsWithItsOwn, IsSound, IsWhole, all_cards, is_held, key_of, HasEntriesFrom, weaker, are_aged_from}
+use Rattle.upd_examine.proofs.Common.{are_yanks_from, begins_on, begins_with_its_own, held_at, held_decks, IsDirectorySound}
 use Rattle.upd_text.specs.Names.{yank_name}
-use Rattle.upd_core.specs.declared.card.Entry.{Entry}
-use Rattle.upd_core.specs.declared.ident.Ident.{Ident}
-use Rattle.upd_core.specs.declared.target.Target.{Target}
-use Rattle.upd_core.specs.Library.{CardView, DeckView, LibraryView, all_decks, held_named, is_deck}
-use Rattle.upd_core.specs.Sound.{AreAgedFrom, AreApart, BeginsOn, BeginsWithItsOwn, HasNoTargets, IsOfHeld, IsSound, IsWhole, all_cards, is_held, key_of}
-use Rattle.upd_core.specs.Status.{HasEntriesFrom}
-use Rattle.upd_row_store.proofs.SortLemmas.{weaker}
-use Rattle.upd_examine.specs.SoundTests.{are_aged_from, are_parts_sound, are_yanks_from, begins_on, begins_with_its_own, has_no_targets, held_at, held_decks}
-use Rattle.upd_examine.specs.SoundTests.{is_card_sound, is_deck_sound, is_of_held}
-use Rattle.upd_examine.specs.Whole.{IsDirectorySound}
+use Rattle.upd_core.specs.Library.{held_named}
+use Rattle.upd_core.specs.Sound.{HasNoTargets, IsOfHeld}
+use Rattle.upd_examine.specs.SoundTests.{are_parts_sound, has_no_targets, is_card_sound, is_deck_sound, is_of_held}
 use Rattle.upd_examine.proofs.TestLemmas.{aged_decided, all_decided, all_flat, begins_decided, begins_on_decided, both, three, yanks_decided}
 use Rattle.upd_examine.proofs.DeckLemmas.{decks_held, held_decks_are, held_positive, held_there}
 

@@ -1,20 +1,14 @@
 -- The bytes that were read of a whole file are the file's, and why a file isn't closed or read.
-use Rattle.std.proofs.Common.{◌≡◌, ◌⊎◌, inr, false, ℕ, ◌+◌, ◌<◌, Bool, ◌&&◌, IsTrue, List, [], ◌∷◌, ◌++◌, length, take, slice_index, refl, sym, ap, subst, ◌∙◌, arith}
+use Rattle.upd_keep.proofs.Common.{◌≡◌, ◌⊎◌, inr, false, ℕ, ◌+◌, ◌<◌, Bool, ◌&&◌, IsTrue, List, [], ◌∷◌, ◌++◌, length, take, refl, sym, ap, subst, ◌∙◌, arith}
+use Rattle.upd_keep.proofs.Common.{Holds, MoreFaults, Ghosts, StoreError, Error, file_state, Held, Fault, NoMemory, Store, IsLost, OfMemory, OfStore, kind_for}
+use Rattle.std.proofs.Common.{slice_index}
 use Rattle.std.proofs.lemmas.Grind.{same_number_lists}
-use Rattle.sqlite_disk.specs.Disk.{Holds, MoreFaults}
-use Rattle.sqlite_disk.specs.declared.Disk.{Ghosts}
-use Rattle.sqlite_trees.specs.declared.error.StoreError.{StoreError}
 use Rattle.sqlite_trees.specs.declared.error.StoreError.TheVariants as store
 use Rattle.sqlite_store.specs.declared.store.FileStore.{FileStore}
 use Rattle.sqlite_store.specs.FileStore.{faults}
-use Rattle.sqlite.specs.declared.error.Error.{Error}
-use Rattle.sqlite.specs.Files.{ExcusesClose, FailsToClose, file_state}
-use Rattle.sqlite.specs.Held.{Held}
+use Rattle.sqlite.specs.Files.{ExcusesClose, FailsToClose}
 use Rattle.sqlite.specs.State.{store_error}
-use Rattle.upd_text.specs.declared.fault.Fault.{Fault}
-use Rattle.upd_text.specs.declared.fault.FaultKind.TheVariants.{NoMemory, Store, Write}
-use Rattle.upd_row_store.specs.Keeping.{IsLost, OfMemory, OfStore}
-use Rattle.upd_store.specs.Faults.{kind_for}
+use Rattle.upd_text.specs.declared.fault.FaultKind.TheVariants.{Write}
 
 all_read : (file bytes : List ℕ) → length bytes ≡ length file → (0 < length bytes → Holds file 0 bytes) → bytes ≡ file
 all_read [] [] same held = refl

@@ -1,7 +1,5 @@
 -- What is found inside a transaction is so of what was committed.
-use Rattle.std.proofs.Common.{◌≡◌, Ok, IsTrue, true, refl}
-use Rattle.sqlite.specs.State.{State, HasCleanDisk}
-use Rattle.upd_records.specs.Rows.{Rows}
+use Rattle.upd_keep.proofs.Common.{◌≡◌, Ok, IsTrue, true, refl, State, HasCleanDisk, Rows}
 use Rattle.upd_sqlite.specs.Rising.{TablesRise}
 use Rattle.upd_sql.specs.Commits.{Looks}
 use Rattle.upd_sql.specs.LibraryTables.{ShowsTables}

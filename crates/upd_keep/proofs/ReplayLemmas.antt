@@ -1,35 +1,31 @@
 -- Runs that are handed in one after the other at a desk, and tables that have the same rows as those that it keeps.
-use Rattle.std.proofs.Common.{◌≡◌, ◌↔◌, true, false, ℕ, ◌+◌, ◌<◌, ◌==◌, cond, Bool, ◌&&◌, List, [], ◌∷◌, ◌++◌, drop, length, map, take, Option, Some, None, Result, Ok, Err, IfErr, IsTrue, inl, inr, refl, sym, ap, subst, ◌∙◌, arith, rules}
+use Rattle.upd_keep.proofs.Common.{◌≡◌, true, false, ℕ, ◌+◌, ◌<◌, Bool, ◌&&◌, List, [], ◌∷◌, ◌++◌, drop, length, take, Option, Some, None, Result, Ok, Err}
+use Rattle.upd_keep.proofs.Common.{IsTrue, inl, inr, refl, sym, ap, subst, ◌∙◌, arith, rules, count_by, IsOkUnless, nat_tests, Fault, NoMemory, Store}
+use Rattle.upd_keep.proofs.Common.{fault_at, IsSame, Rows, count_cons, IsLost, OfMemory, OfStore, no_rows, ArrivalView, Came, arrival_of, journal_with}
+use Rattle.std.proofs.Common.{◌↔◌, ◌==◌, cond, map, IfErr}
 use Rattle.std.specs.Cmp.{booleans_Decides}
-use Rattle.std.specs.List.{count_by, filter}
-use Rattle.std.specs.Result.{IsOkUnless}
+use Rattle.std.specs.List.{filter}
 use Rattle.std.proofs.Math.Bool.{beq}
 use Rattle.std.proofs.lemmas.Bool.{and_parts}
 use Rattle.std.proofs.lemmas.List.{append_assoc, take-append-drop}
-use Rattle.std.proofs.lemmas.Bool.Decides.{nat_tests}
-use Rattle.upd_text.specs.declared.fault.Fault.{Fault}
-use Rattle.upd_text.specs.declared.fault.FaultKind.TheVariants.{NoMemory, Store}
-use Rattle.upd_text.specs.Faults.{fault_at}
 use Rattle.upd_core.specs.Library.{LibraryView}
 use Rattle.upd_core.specs.Status.{status_of}
 use Rattle.upd_core.specs.TargetCounts.{live_count}
 use Rattle.upd_core.specs.Targets.{is_same}
 use Rattle.upd_core.specs.declared.states.States.{States}
 use Rattle.upd_core.proofs.CountedLemmas.{same_target, target_same}
-use Rattle.upd_records.specs.Rows.{CountRow, IsSame, Rows, RunView, Shows, ShowsStates, StateRow, count_rows, same_ref, state_rows}
+use Rattle.upd_records.specs.Rows.{CountRow, RunView, Shows, ShowsStates, StateRow, count_rows, same_ref, state_rows}
 use Rattle.upd_records.specs.declared.rows.LibraryRows.{LibraryRows}
-use Rattle.upd_records.proofs.CountLemmas.{count_cons, count_map, same_filter, same_trans}
+use Rattle.upd_records.proofs.CountLemmas.{count_map, same_filter, same_trans}
 use Rattle.upd_records.proofs.EqualLemmas.{same_ref_is, same_ref_own}
 use Rattle.upd_row_store.specs.declared.meaning.Meaning.{Ghosts}
 use Rattle.upd_row_store.specs.Assembling.{AreRowsOf}
-use Rattle.upd_row_store.specs.Keeping.{IsLater, IsLost, OfMemory, OfStore}
+use Rattle.upd_row_store.specs.Keeping.{IsLater}
 use Rattle.upd_row_store.specs.Tables.{AreRead, count_pair, state_pair}
-use Rattle.upd_sql.specs.Making.{no_rows}
-use Rattle.upd_desk.specs.Arrivals.{ArrivalView}
 use Rattle.upd_desk.specs.Holding.{EachHeld, Holds, IsHeld, IsOwed}
-use Rattle.upd_desk.specs.Journal.{Came, Journal, answer}
+use Rattle.upd_desk.specs.Journal.{Journal, answer}
 use Rattle.upd_desk.specs.Outcomes.{ReplyView}
-use Rattle.upd_keep.specs.Replaying.{HasReply, HaveReplies, arrival_of, journal_with}
+use Rattle.upd_keep.specs.Replaying.{HasReply, HaveReplies}
 
 -- ---- runs, one after the other
 
@@ -57,14 +53,6 @@ module _ {S : Type 0} (meaning : Ghosts S) where
       )
 
 -- ---- one run
-
--- whether the reply is the stored one says whether that is expected
-pub reply_decided : (j : Journal) (run : RunView) (a : ArrivalView) (reply : ReplyView) (same : Bool) → a ≡ arrival_of run → answer j a ≡ Ok reply
-    → (IsTrue same ↔ (reply ≡ record { accepted = run.accepted; text = run.reply })) → IsTrue same ↔ HasReply j run
-reply_decided j run a reply same is answers decides = (
-  λ yes. ap (answer j) (sym is) ∙ answers ∙ ap Ok (decides.0 yes),
-  λ has. decides.1 (let e = sym answers ∙ ap (answer j) is ∙ has in cc),
-)
 
 -- a fault that isn't lost is no reply
 pub fault_decided : (j : Journal) (run : RunView) (a : ArrivalView) (fault : Fault) → a ≡ arrival_of run → (fault.kind ≡ NoMemory → ⊥)

@@ -1,21 +1,15 @@
 -- What is said of a connection is said of the file that it was opened to, and why none came.
-use Rattle.std.proofs.Common.{◌≡◌, ◌⊎◌, ℕ, inl, inr, true, false, Option, Some, None, Result, Ok, Err, IfSome, refl, sym, ap, ◌∙◌}
-use Rattle.sqlite_disk.specs.Disk.{MoreFaults}
-use Rattle.sqlite_disk.specs.declared.Disk.{Ghosts}
+use Rattle.upd_keep.proofs.Common.{◌≡◌, ◌⊎◌, ℕ, inl, inr, true, false, Option, Some, None, Result, Ok, Err, refl, sym, ap, ◌∙◌, MoreFaults, Ghosts}
+use Rattle.upd_keep.proofs.Common.{StoreError, Error, State, HasCleanDisk, Fault, NoMemory, Store, kind_for}
+use Rattle.std.proofs.Common.{IfSome}
 use Rattle.sqlite_disk.specs.declared.Files.{Files}
-use Rattle.sqlite_trees.specs.declared.error.StoreError.{StoreError}
 use Rattle.sqlite_wal.specs.Recovery.{Image}
 use Rattle.sqlite.specs.declared.error.ErrorCode.TheVariants as code
-use Rattle.sqlite.specs.declared.error.Error.{Error}
 use Rattle.sqlite.specs.declared.error.Error.TheVariants.{SqliteFailure}
 use Rattle.sqlite.specs.declared.file.Leftover.{Leftover}
 use Rattle.sqlite.specs.Files.{IsCleanLeft, FailsToOpenFiles, LeavesFiles}
 use Rattle.sqlite.specs.Opening.{FailsAs}
 use Rattle.sqlite.specs.Start.{FindsIn}
-use Rattle.sqlite.specs.State.{State, HasCleanDisk}
-use Rattle.upd_text.specs.declared.fault.Fault.{Fault}
-use Rattle.upd_text.specs.declared.fault.FaultKind.TheVariants.{NoMemory, Store}
-use Rattle.upd_store.specs.Faults.{kind_for}
 use Rattle.upd_keep.specs.Examining.{ExaminesFile, FailsToOpen, ReportsOn, is_told}
 use Rattle.upd_keep.specs.declared.file_examination.Report.{Report}
 use Rattle.upd_keep.specs.declared.file_examination.Report.TheVariants.{Library, Other}

@@ -1,8 +1,5 @@
 -- Lists with the same elements are equally long.
-use Rattle.std.proofs.Common.{◌≡◌, true, List, [], ◌∷◌, length, refl, sym, ◌∙◌, arith}
-use Rattle.std.specs.List.{count_by}
-use Rattle.upd_records.specs.Rows.{IsSame}
-use Rattle.upd_records.proofs.CountLemmas.{count_cons}
+use Rattle.upd_keep.proofs.Common.{◌≡◌, true, List, [], ◌∷◌, length, refl, sym, ◌∙◌, arith, count_by, IsSame, count_cons}
 
 count_all : {A : Type 0} (xs : List A) → count_by (λ _. true) xs ≡ length xs
 count_all [] = refl

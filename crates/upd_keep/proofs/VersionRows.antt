@@ -1,17 +1,16 @@
 -- The table of the version: as many rows are answered as it has.
-use Rattle.std.proofs.Common.{◌≡◌, true, List, [], length, Ok, IsTrue, refl, sym, ap, subst, ◌∙◌}
+use Rattle.upd_keep.proofs.Common.{◌≡◌, true, List, [], length, Ok, IsTrue, refl, sym, ap, subst, ◌∙◌, State, HasCleanDisk, library_schema}
 use Rattle.std.proofs.lemmas.List.{length-map}
 use Rattle.std.proofs.lemmas.List.Sorted.{length_permutation}
 use Rattle.sqlite_value.specs.Order.{Row}
 use Rattle.sqlite_tied.specs.Compute.{everything}
 use Rattle.sqlite.specs.Listing.{understood}
-use Rattle.sqlite.specs.State.{State, HasCleanDisk, Shown}
+use Rattle.sqlite.specs.State.{Shown}
 use Rattle.sqlite.proofs.Callers.{reads_as}
 use Rattle.upd_sqlite.proofs.Queries.{any_order}
 use Rattle.upd_sql.specs.Commits.{WasOpen}
 use Rattle.upd_sql.proofs.ReadTexts.{Reads, two}
 use Rattle.upd_sql.proofs.WholeLemmas.{all_pass}
-use Rattle.upd_sql.specs.Schema.{library_schema}
 use Rattle.upd_keep.specs.Examining.{HasOneVersion}
 use Rattle.upd_keep.specs.declared.versions.TheConstants.{ALL_VERSIONS}
 

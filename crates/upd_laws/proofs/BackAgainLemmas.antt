@@ -1,15 +1,8 @@
 -- Purging back restores a library that has only grown, and runs without new idents change nothing.
-use Rattle.std.proofs.Common.{◌≡◌, ℕ, ◌<◌, ◌≤◌, Bool, false, ◌&&◌, List, [], ◌∷◌, ◌++◌, map, length, refl, ap, ◌∙◌, arith, append-nil, length-append}
-use Rattle.std.specs.Prelude.{nat_le}
-use Rattle.std.specs.List.{AllByRecursion}
-use Rattle.std.specs.Str.{bytes_eq}
-use Rattle.upd_core.specs.declared.card.Entry.{Entry}
-use Rattle.upd_text.specs.declared.card_ref.CardRef.{CardRef}
-use Rattle.upd_core.specs.declared.ident.Ident.{Ident}
-use Rattle.upd_core.specs.Edits.{next_age, purged_back, unheld}
-use Rattle.upd_core.specs.Library.{CardView, DeckView, LibraryView, held_named}
+use Rattle.upd_laws.proofs.Common.{◌≡◌, ℕ, ◌<◌, ◌≤◌, Bool, false, ◌&&◌, List, [], ◌∷◌, ◌++◌, map, length, refl, ap, ◌∙◌, arith, append-nil, length-append}
+use Rattle.upd_laws.proofs.Common.{nat_le, AllByRecursion, bytes_eq, Entry, CardRef, Ident, next_age, purged_back, unheld, CardView, DeckView, LibraryView}
+use Rattle.upd_laws.proofs.Common.{held_named, GoesOn, AreAmong, Ended, Kept, Come, DecksGoOn, IsNewDeck, IsAgain}
 use Rattle.upd_core.specs.Status.{status_of}
-use Rattle.upd_laws.specs.PurgingBack.{GoesOn, AreAmong, Ended, Kept, Come, DecksGoOn, IsNewDeck, IsAgain}
 use Rattle.upd_laws.proofs.BackGrowthLemmas.{all_weaker}
 use Rattle.upd_laws.proofs.BackLibraryLemmas.{Within, Grows}
 use Rattle.upd_laws.proofs.BackOldLemmas.{IsOld, ages_below}

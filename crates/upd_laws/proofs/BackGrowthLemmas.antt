@@ -1,16 +1,9 @@
 -- Cards among others, and decks that are extended: what each edit of a list leaves, and two steps in one.
-use Rattle.std.proofs.Common.{◌≡◌, ℕ, ◌+◌, ◌≤◌, Bool, true, false, cond, List, [], ◌∷◌, ◌++◌, map, length, take, drop, refl, sym, ap, ◌∙◌, arith}
-use Rattle.std.proofs.Common.{append_assoc, append-nil, add-zero, take-append-drop, take-take}
-use Rattle.std.specs.Prelude.{◌==◌, insert}
-use Rattle.std.specs.List.{AllByRecursion}
-use Rattle.upd_core.specs.declared.card.Entry.{Entry}
-use Rattle.upd_core.specs.declared.ident.Ident.{Ident}
-use Rattle.upd_core.specs.Edits.{entered}
-use Rattle.upd_core.specs.First.{at_first}
-use Rattle.upd_core.specs.Library.{CardView, DeckView, is_deck}
-use Rattle.upd_core.specs.Sound.{AreAgedFrom}
+use Rattle.upd_laws.proofs.Common.{◌≡◌, ℕ, ◌+◌, ◌≤◌, Bool, true, false, cond, List, [], ◌∷◌, ◌++◌, map, length, take, drop, refl, sym, ap, ◌∙◌, arith}
+use Rattle.upd_laws.proofs.Common.{append_assoc, append-nil, ◌==◌, insert, AllByRecursion, Entry, Ident, entered, at_first, CardView, DeckView, is_deck}
+use Rattle.upd_laws.proofs.Common.{AreAgedFrom, GoesOn, AreAmong, Ended, Kept, Come, DecksGoOn, IsNewDeck}
+use Rattle.std.proofs.Common.{add-zero, take-append-drop, take-take}
 use Rattle.upd_laws.proofs.SoundListLemmas.{all_append}
-use Rattle.upd_laws.specs.PurgingBack.{GoesOn, AreAmong, Ended, Kept, Come, DecksGoOn, IsNewDeck}
 
 -- ---- what holds of all elements
 

@@ -1,17 +1,9 @@
 -- A library that has only grown, by idents from a serial on: what each edit leaves, and two steps in one.
-use Rattle.std.proofs.Common.{◌≡◌, ℕ, ◌+◌, ◌-◌, ◌≤◌, Bool, true, false, cond, List, [], ◌∷◌, ◌++◌, length, refl, sym, ap, ◌∙◌, arith}
-use Rattle.std.proofs.Common.{append_assoc, append-nil, length-append}
-use Rattle.std.specs.Prelude.{◌==◌, insert}
-use Rattle.upd_core.specs.declared.card.Entry.{Entry}
-use Rattle.upd_core.specs.declared.ident.Ident.{Ident}
-use Rattle.upd_core.specs.declared.ident.Kind.{Kind}
-use Rattle.upd_core.specs.declared.target.Target.{Target}
-use Rattle.upd_core.specs.Edits.{introduced, next_age, new_card, with_deck, with_card, with_yank, with_entries, entered_range}
-use Rattle.upd_core.specs.First.{at_first}
-use Rattle.upd_core.specs.Library.{CardView, DeckView, LibraryView, with_cards, is_deck}
-use Rattle.upd_core.specs.Sound.{AreAgedFrom}
+use Rattle.upd_laws.proofs.Common.{◌≡◌, ℕ, ◌+◌, ◌-◌, ◌≤◌, Bool, true, false, cond, List, [], ◌∷◌, ◌++◌, length, refl, sym, ap, ◌∙◌, arith, append_assoc}
+use Rattle.upd_laws.proofs.Common.{append-nil, length-append, ◌==◌, insert, Entry, Ident, Kind, Target, introduced, next_age, new_card, with_deck, with_card}
+use Rattle.upd_laws.proofs.Common.{with_yank, with_entries, entered_range, at_first, CardView, DeckView, LibraryView, with_cards, is_deck, AreAgedFrom}
+use Rattle.upd_laws.proofs.Common.{AreAmong, DecksGoOn, IsNewDeck, Ended, Come}
 use Rattle.upd_apply.proofs.DirectoryLemmas.{idents_with}
-use Rattle.upd_laws.specs.PurgingBack.{AreAmong, DecksGoOn, IsNewDeck, Ended, Come}
 use Rattle.upd_laws.proofs.BackGrowthLemmas.{aged_append, among, among_append, among_twice, among_insert, among_range, decks, decks_on, decks_at_first}
 use Rattle.upd_laws.proofs.BackGrowthLemmas.{decks_twice}
 

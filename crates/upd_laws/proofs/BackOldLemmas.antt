@@ -1,12 +1,8 @@
 -- A sound library is older than its next ident.
-use Rattle.std.proofs.Common.{◌≡◌, ℕ, ◌+◌, ◌<◌, ◌≤◌, Bool, true, ◌&&◌, List, [], ◌∷◌, ◌++◌, length, ⊎_elim, arith, eqb-true}
-use Rattle.std.specs.Prelude.{IsTrue}
-use Rattle.std.specs.List.{AllByRecursion, flat_map, list_any}
-use Rattle.std.proofs.lemmas.Bool.{or_cases, and_parts}
-use Rattle.upd_core.specs.declared.ident.Ident.{Ident}
-use Rattle.upd_core.specs.Edits.{next_age}
-use Rattle.upd_core.specs.Library.{CardView, DeckView, LibraryView, is_deck_kind}
-use Rattle.upd_core.specs.Sound.{AreAgedFrom, is_held, is_held_deck, IsOfHeld, IsSound}
+use Rattle.upd_laws.proofs.Common.{◌≡◌, ℕ, ◌+◌, ◌<◌, ◌≤◌, Bool, true, ◌&&◌, List, [], ◌∷◌, ◌++◌, length, arith, IsTrue, AllByRecursion, flat_map, list_any}
+use Rattle.upd_laws.proofs.Common.{or_cases, and_parts, Ident, next_age, CardView, DeckView, LibraryView, is_deck_kind, AreAgedFrom, is_held, is_held_deck}
+use Rattle.upd_laws.proofs.Common.{IsOfHeld, IsSound}
+use Rattle.std.proofs.Common.{⊎_elim, eqb-true}
 use Rattle.upd_laws.proofs.BackGrowthLemmas.{all_weaker}
 use Rattle.upd_laws.proofs.BackPurgeLemmas.{IsOldCard, IsOldDeck}
 

@@ -1,14 +1,9 @@
 -- A purge of an ident and of all younger ones removes what is of them, and leaves what is older.
-use Rattle.std.proofs.Common.{◌≡◌, ℕ, ◌<◌, ◌≤◌, Bool, false, not, cond, leb, List, [], ◌∷◌, ◌++◌, map, Option, Some, refl, ap, le-leb}
-use Rattle.std.specs.Prelude.{nat_le}
-use Rattle.std.specs.List.{AllByRecursion, filter, find}
-use Rattle.std.proofs.lemmas.Bool.{lt-leb}
+use Rattle.upd_laws.proofs.Common.{◌≡◌, ℕ, ◌<◌, ◌≤◌, Bool, false, not, cond, List, [], ◌∷◌, ◌++◌, map, refl, ap, nat_le, AllByRecursion, filter, find, lt-leb}
+use Rattle.upd_laws.proofs.Common.{Entry, Ident, without_entries, without_idents, decks_without, unheld, CardView, DeckView, GoesOn, AreAmong, Ended, Kept}
+use Rattle.upd_laws.proofs.Common.{Come, DecksGoOn, IsNewDeck}
+use Rattle.std.proofs.Common.{leb, Option, Some, le-leb}
 use Rattle.std.proofs.Math.Bool.{and-true, and-false}
-use Rattle.upd_core.specs.declared.card.Entry.{Entry}
-use Rattle.upd_core.specs.declared.ident.Ident.{Ident}
-use Rattle.upd_core.specs.Edits.{without_entries, without_idents, decks_without, unheld}
-use Rattle.upd_core.specs.Library.{CardView, DeckView}
-use Rattle.upd_laws.specs.PurgingBack.{GoesOn, AreAmong, Ended, Kept, Come, DecksGoOn, IsNewDeck}
 use Rattle.upd_laws.proofs.BackLibraryLemmas.{Within}
 
 -- ---- what is older than x

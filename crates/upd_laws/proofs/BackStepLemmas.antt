@@ -1,30 +1,16 @@
 -- One line that purges nothing: the library only grows, by idents from x on, and the current set is one of these.
-use Rattle.std.proofs.Common.{◌≡◌, ℕ, ◌≤◌, Bool, true, false, not, List, [], ◌∷◌, length, Option, Some, None, Result, Ok, Err, refl, sym, ◌∙◌, arith}
-use Rattle.std.proofs.Common.{ltb-false}
-use Rattle.std.specs.Prelude.{◌==◌, IsTrue}
-use Rattle.std.specs.List.{list_all}
+use Rattle.upd_laws.proofs.Common.{◌≡◌, ℕ, ◌≤◌, Bool, true, false, not, List, [], ◌∷◌, length, refl, sym, ◌∙◌, arith, ◌==◌, IsTrue, list_all, and_parts}
+use Rattle.upd_laws.proofs.Common.{Entry, Fault, Kind, introduced, next_age, new_card, with_deck, DeckView, LibraryView, ◌>>=◌, at_line, ItemView, LineView}
+use Rattle.upd_laws.proofs.Common.{InsertPoint, Nowhere, End, Inside, State, Reached, started, stepped, applied, named_decks, Edit, Stays, NewSet, NewDeck}
+use Rattle.upd_laws.proofs.Common.{AddsAtEnd, AddsInside, Switches, AddsYank, Purges, PurgesIn, carried, step, line_is, Fits, of_step}
+use Rattle.std.proofs.Common.{Option, Some, None, Result, Ok, Err, ltb-false}
 use Rattle.std.specs.Result.{IfOk}
-use Rattle.std.proofs.lemmas.Bool.{or_parts, and_parts, not-true}
+use Rattle.std.proofs.lemmas.Bool.{or_parts, not-true}
 use Rattle.std.proofs.lemmas.Result.{IfOk-weaker}
-use Rattle.upd_core.specs.declared.card.Entry.{Entry}
-use Rattle.upd_text.specs.declared.fault.Fault.{Fault}
-use Rattle.upd_core.specs.declared.ident.Kind.{Kind}
 use Rattle.upd_core.specs.declared.ident.Kind.TheVariants as kind
-use Rattle.upd_core.specs.Edits.{introduced, next_age, new_card, with_deck}
-use Rattle.upd_core.specs.Library.{DeckView, LibraryView}
-use Rattle.upd_text.specs.Outcome.{◌>>=◌, at_line}
-use Rattle.upd_deck.specs.Items.{ItemView, LineView}
 use Rattle.upd_apply.specs.declared.state.CurrentSet.{CurrentSet}
-use Rattle.upd_apply.specs.declared.state.InsertPoint.{InsertPoint}
-use Rattle.upd_apply.specs.declared.state.InsertPoint.TheVariants.{Nowhere, End, Inside}
-use Rattle.upd_apply.specs.declared.state.State.{State}
-use Rattle.upd_apply.specs.Applying.{Reached, started, stepped, applied}
-use Rattle.upd_apply.specs.Compile.{named_decks}
 use Rattle.upd_apply.specs.Directives.{is_purge}
-use Rattle.upd_apply.specs.LineEdits.{Edit, Stays, NewSet, NewDeck, AddsAtEnd, AddsInside, Switches, AddsYank, Purges, PurgesIn, carried}
-use Rattle.upd_apply.specs.Step.{step}
-use Rattle.upd_apply.proofs.BindLemmas.{bind_all, line_is}
-use Rattle.upd_apply.proofs.EditLemmas.{Fits, of_step}
+use Rattle.upd_apply.proofs.BindLemmas.{bind_all}
 use Rattle.upd_laws.specs.PurgingBack.{purges_nothing, all_applied}
 use Rattle.upd_laws.proofs.BackLibraryLemmas.{Within, Grows, grows, grows_twice, no_fewer, grows_card, grows_entries, grows_yank, grows_ident, grows_deck}
 use Rattle.upd_laws.proofs.BackLibraryLemmas.{length-introduced, idents-with_card, idents-with_entries}

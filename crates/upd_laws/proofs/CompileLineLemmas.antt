@@ -1,37 +1,28 @@
 -- Lines of compile files, where the library was made by runs that were read.
-use Rattle.std.proofs.Common.{◌≡◌, ℕ, zero, suc, ◌-◌, ◌*◌, ◌^◌, ◌<◌, ◌≤◌, Bool, true, false, cond, ◌&&◌, ◌||◌, List, [], ◌∷◌, ◌++◌, length}
-use Rattle.std.proofs.Common.{slice_get, Option, Some, None, Ok, refl, arith, length-append}
-use Rattle.std.proofs.lemmas.Bool.Decides.{nat_tests}
+use Rattle.upd_laws.proofs.Common.{◌≡◌, ℕ, zero, suc, ◌-◌, ◌<◌, ◌≤◌, Bool, true, false, cond, ◌&&◌, ◌||◌, List, [], ◌∷◌, ◌++◌, length, refl, arith}
+use Rattle.upd_laws.proofs.Common.{length-append, nat_tests, sum_by-cons, ◌==◌, nat_le, count_by, IsTrue, option_map, option_and_then, filter, flat_map}
+use Rattle.upd_laws.proofs.Common.{list_all, AllByRecursion, Fault, FaultKind, is_name, Ident, Target, CardView, DeckView, LibraryView, held_named, all_cards}
+use Rattle.upd_laws.proofs.Common.{live_targets, all_back, is_allowed, HasLineTexts, IsOfRun, flat, holds_of}
+use Rattle.std.proofs.Common.{◌*◌, ◌^◌, slice_get, Option, Some, None, Ok}
 use Rattle.std.proofs.lemmas.Fmt.{decimal_is_IsNumeral, length-decimal-le}
 use Rattle.std.proofs.lemmas.List.{length-replicate}
-use Rattle.std.proofs.lemmas.List.Sums.{sum_by-cons}
 use Rattle.std.specs.Char.{digit_value}
 use Rattle.std.specs.Str.Parse.{AllDigits}
-use Rattle.std.specs.Prelude.{◌==◌, nat_le, decimal, count_by, IsTrue, unwrap_or}
-use Rattle.std.specs.Option.{option_map, option_and_then}
-use Rattle.std.specs.List.{filter, flat_map, list_all, AllByRecursion, Contains}
-use Rattle.upd_text.specs.declared.fault.Fault.{Fault}
-use Rattle.upd_text.specs.declared.fault.FaultKind.{FaultKind}
+use Rattle.std.specs.Prelude.{decimal, unwrap_or}
+use Rattle.std.specs.List.{Contains}
 use Rattle.upd_text.specs.declared.limits.TheConstants.{MAX_DEPTH, MAX_NAME_BYTES}
 use Rattle.upd_text.specs.Lines.{called, is_call}
-use Rattle.upd_text.specs.Names.{is_between, is_name, is_name_byte}
-use Rattle.upd_core.specs.declared.ident.Ident.{Ident}
-use Rattle.upd_core.specs.declared.target.Target.{Target}
+use Rattle.upd_text.specs.Names.{is_between, is_name_byte}
 use Rattle.upd_core.specs.Actives.{ActiveCardView, ActiveDeckView, ActivesView, active_deck, actives_of, without_past}
-use Rattle.upd_core.specs.Library.{CardView, DeckView, LibraryView, held_named, is_common, name_of}
-use Rattle.upd_core.specs.Sound.{all_cards}
-use Rattle.upd_core.specs.Status.{is_active, live_targets}
-use Rattle.upd_core.proofs.ApartLemmas.{all_at, all_back, all_of_contained, find_at}
-use Rattle.upd_deck.specs.Reading.{is_allowed}
+use Rattle.upd_core.specs.Library.{is_common, name_of}
+use Rattle.upd_core.specs.Status.{is_active}
+use Rattle.upd_core.proofs.ApartLemmas.{all_at, all_of_contained, find_at}
 use Rattle.upd_deck.proofs.GrammarNames.{all_of}
 use Rattle.upd_compile.specs.declared.mode.Mode.{Mode}
 use Rattle.upd_compile.specs.Chosen.{chosen}
 use Rattle.upd_compile.specs.File.{FileView, blanks, card_line, compile_file_of, event_line, from_left, from_right, is_line, walk_faults, written}
 use Rattle.upd_compile.specs.Walk.{WalkEvent, Line, Follow, Depth, Unknown, card_events, common_named, deck_aged, call_events, text_cards, walk}
-use Rattle.upd_laws.specs.ReadRuns.{HasLineTexts, IsOfRun}
 use Rattle.upd_laws.proofs.SoundListLemmas.{and_left, and_right, all_append, all_each, all_filter, all_flat, all_map, all_weaker}
-use Rattle.upd_core.proofs.FoundLemmas.{flat}
-use Rattle.upd_apply.proofs.BindLemmas.{holds_of}
 
 -- ---- one line
 

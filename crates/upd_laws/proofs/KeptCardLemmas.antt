@@ -1,22 +1,11 @@
 -- A run leaves the old cards of each deck in their order, but for those of idents that it purges.
-use Rattle.std.proofs.Common.{◌≡◌, ℕ, ◌+◌, Bool, true, false, not, ◌&&◌, if◌then◌else◌, cond, List, [], ◌∷◌, map, length, Some, Ok, refl, sym}
-use Rattle.std.proofs.Common.{ap, ◌∙◌, arith}
-use Rattle.std.proofs.lemmas.Bool.{lt-leb}
+use Rattle.upd_laws.proofs.Common.{◌≡◌, ℕ, ◌+◌, Bool, true, false, not, ◌&&◌, if◌then◌else◌, cond, List, [], ◌∷◌, map, length, refl, sym, ap, ◌∙◌, arith}
+use Rattle.upd_laws.proofs.Common.{lt-leb, ◌==◌, nat_le, option_map_or, filter, find, AllByRecursion, Ident, decks_without, purged, purged_in, unheld}
+use Rattle.upd_laws.proofs.Common.{without_idents, at_first, CardView, DeckView, LibraryView, all_decks, cards_of, is_deck, ItemView, LineView, State}
+use Rattle.upd_laws.proofs.Common.{Reached, applied, started, Edit, Purges, PurgesIn, carried, ended, purged_in_all, step, Fits, of_step, purges_keep}
+use Rattle.upd_laws.proofs.Common.{steps_keep, AreAmong, DecksGoOn, IsNewDeck, Ended, Kept, Come}
+use Rattle.std.proofs.Common.{Some, Ok}
 use Rattle.std.proofs.lemmas.List.{length-map}
-use Rattle.std.specs.Prelude.{◌==◌, nat_le}
-use Rattle.std.specs.Option.{option_map_or}
-use Rattle.std.specs.List.{filter, find, AllByRecursion}
-use Rattle.upd_core.specs.declared.ident.Ident.{Ident}
-use Rattle.upd_core.specs.Edits.{decks_without, purged, purged_in, unheld, without_idents}
-use Rattle.upd_core.specs.First.{at_first}
-use Rattle.upd_core.specs.Library.{CardView, DeckView, LibraryView, all_decks, cards_of, is_deck}
-use Rattle.upd_deck.specs.Items.{ItemView, LineView}
-use Rattle.upd_apply.specs.declared.state.State.{State}
-use Rattle.upd_apply.specs.Applying.{Reached, applied, started}
-use Rattle.upd_apply.specs.LineEdits.{Edit, Purges, PurgesIn, carried, ended, purged_in_all}
-use Rattle.upd_apply.specs.Step.{step}
-use Rattle.upd_apply.proofs.EditLemmas.{Fits, of_step, purges_keep, steps_keep}
-use Rattle.upd_laws.specs.PurgingBack.{AreAmong, DecksGoOn, IsNewDeck, Ended, Kept, Come}
 use Rattle.upd_laws.specs.KeptCards.{KeepsCards, plain_cards, without_history}
 use Rattle.upd_laws.proofs.BackLibraryLemmas.{Grows, Within}
 use Rattle.upd_laws.proofs.BackStepLemmas.{Next, Ready, edit_next}

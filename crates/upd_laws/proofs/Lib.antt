@@ -4,6 +4,7 @@ pub mod BackStepLemmas
 pub mod BackPurgeLemmas
 pub mod BackOldLemmas
 pub mod BackAgainLemmas
+pub mod Common
 pub mod SoundCardLemmas
 pub mod SoundEditLemmas
 pub mod SoundIdentLemmas

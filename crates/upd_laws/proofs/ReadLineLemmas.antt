@@ -1,28 +1,20 @@
 -- Runs that were read: the number of their lines, and their texts and names.
-use Rattle.std.proofs.Common.{◌≡◌, ℕ, zero, suc, ◌+◌, ◌-◌, ◌≤◌, Bool, true, false, not, if◌then◌else◌, List, [], ◌∷◌, ◌++◌, length, Option, Some, None}
-use Rattle.std.proofs.Common.{Result, Ok, refl, arith, length-append}
-use Rattle.std.proofs.lemmas.Bool.Decides.{nat_tests}
-use Rattle.std.specs.Prelude.{nat_lt, IsTrue, take}
-use Rattle.std.specs.Option.{IfSome}
-use Rattle.std.specs.List.{list_all, suffix_len, AllByRecursion}
-use Rattle.upd_text.specs.declared.card_ref.CardRef.{CardRef}
-use Rattle.upd_text.specs.declared.fault.Fault.{Fault}
-use Rattle.upd_text.specs.declared.fault.FaultKind.{FaultKind}
+use Rattle.upd_laws.proofs.Common.{◌≡◌, ℕ, zero, suc, ◌+◌, ◌-◌, ◌≤◌, Bool, true, false, not, if◌then◌else◌, List, [], ◌∷◌, ◌++◌, length, refl, arith}
+use Rattle.upd_laws.proofs.Common.{length-append, nat_tests, nat_lt, IsTrue, IfSome, list_all, AllByRecursion, CardRef, Fault, FaultKind, MAX_RUN_LINES}
+use Rattle.upd_laws.proofs.Common.{is_name, ◌>>=◌, at_line, each, refuse_if, ItemView, LineView, Text, is_allowed, IsLineText, WereRead, new_name_of, bind_ok}
+use Rattle.upd_laws.proofs.Common.{holds_of, line_is}
+use Rattle.std.proofs.Common.{Option, Some, None, Result, Ok}
+use Rattle.std.specs.Prelude.{take}
+use Rattle.std.specs.List.{suffix_len}
 use Rattle.upd_text.specs.declared.fault.FaultKind.TheVariants as fault
-use Rattle.upd_text.specs.declared.limits.TheConstants.{MAX_LINE_BYTES, MAX_RUN_BYTES, MAX_RUN_LINES}
+use Rattle.upd_text.specs.declared.limits.TheConstants.{MAX_LINE_BYTES, MAX_RUN_BYTES}
 use Rattle.upd_text.specs.Lines.{is_blank, is_comment, is_starred, fields, word}
-use Rattle.upd_text.specs.Names.{is_name}
-use Rattle.upd_text.specs.Outcome.{◌>>=◌, at_line, each, refuse_if}
 use Rattle.upd_deck.specs.declared.word.Word.{Word}
 use Rattle.upd_deck.specs.declared.word.Word.TheVariants as words
-use Rattle.upd_deck.specs.Items.{ItemView, LineView, Text, Call, Ident, Deck, Insert, Before, Delete, Restore, Yank, SelYank, YankDeck, Purge}
-use Rattle.upd_deck.specs.Items.{PurgeFrom, SelPurge, PurDeck, Compile}
-use Rattle.upd_deck.specs.Reading.{CutLine, are_its_fields, card_ref_in, cut, first_field, is_allowed, is_from_name, last_of_two, two_cards_in, item_by}
+use Rattle.upd_deck.specs.Items.{Call, Ident, Deck, Insert, Before, Delete, Restore, Yank, SelYank, YankDeck, Purge, PurgeFrom, SelPurge, PurDeck, Compile}
+use Rattle.upd_deck.specs.Reading.{CutLine, are_its_fields, card_ref_in, cut, first_field, is_from_name, last_of_two, two_cards_in, item_by}
 use Rattle.upd_deck.specs.Reading.{item_of, item_with, meaning, name_in, said, said_at, text_of, trimmed}
-use Rattle.upd_laws.specs.ReadRuns.{IsLineText, WereRead}
 use Rattle.upd_laws.proofs.SoundListLemmas.{and_left, and_right, both}
-use Rattle.upd_apply.specs.Directives.{new_name_of}
-use Rattle.upd_apply.proofs.BindLemmas.{bind_ok, holds_of, line_is}
 use Rattle.upd_laws.proofs.SoundOutcomeLemmas.{each_all, refusal_ok}
 
 -- ---- how much is found

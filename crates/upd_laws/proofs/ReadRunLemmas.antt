@@ -1,40 +1,16 @@
 -- Runs that were read: each card has the text of a line, and its number is at most the number of lines up to it.
-use Rattle.std.proofs.Common.{◌≡◌, ℕ, zero, suc, ◌+◌, ◌-◌, ◌<◌, ◌≤◌, Bool, true, false, List, [], ◌∷◌, ◌++◌, map, length, take, drop, refl, sym}
-use Rattle.std.proofs.Common.{subst, arith}
-use Rattle.std.specs.Prelude.{Option, Some, None, Result, Ok, Err, ◌==◌, insert, IsTrue}
-use Rattle.std.specs.Option.{IfSome}
-use Rattle.std.specs.List.{AllByRecursion}
-use Rattle.upd_text.specs.declared.fault.Fault.{Fault}
-use Rattle.upd_text.specs.declared.limits.TheConstants.{MAX_RUN_LINES}
-use Rattle.upd_text.specs.Names.{is_name}
-use Rattle.upd_text.specs.Outcome.{at_line}
-use Rattle.upd_core.specs.declared.card.Entry.{Entry}
+use Rattle.upd_laws.proofs.Common.{◌≡◌, ℕ, zero, suc, ◌+◌, ◌-◌, ◌<◌, ◌≤◌, Bool, true, false, List, [], ◌∷◌, ◌++◌, map, length, take, drop, refl, sym, subst}
+use Rattle.upd_laws.proofs.Common.{arith, Option, Some, None, Result, Ok, Err, ◌==◌, insert, IsTrue, IfSome, AllByRecursion, Fault, MAX_RUN_LINES, is_name}
+use Rattle.upd_laws.proofs.Common.{at_line, Entry, Kind, Target, introduced, next_age, new_card, unheld, entered, without_idents, with_deck, with_card}
+use Rattle.upd_laws.proofs.Common.{with_yank, with_entries, purged, entered_range, purged_in, CardView, DeckView, LibraryView, empty, all_decks, is_deck}
+use Rattle.upd_laws.proofs.Common.{with_cards, all_cards, ItemView, LineView, CurrentSet, InsertPoint, Nowhere, End, Inside, State, Reached, applied, started}
+use Rattle.upd_laws.proofs.Common.{stepped, new_name_of, Edit, Stays, NewSet, NewDeck, AddsAtEnd, AddsInside, Switches, AddsYank, Purges, PurgesIn, carried}
+use Rattle.upd_laws.proofs.Common.{ended, step, bind_ok, holds_of, line_is, Fits, of_step, purges_keep, HasLineTexts, IsLineText, IsOfRun, WereRead}
+use Rattle.upd_laws.proofs.Common.{after_run, after_runs, flat}
 use Rattle.upd_core.specs.declared.ident.Ident as ident
-use Rattle.upd_core.specs.declared.ident.Kind.{Kind}
 use Rattle.upd_core.specs.declared.ident.Kind.TheVariants as kind
-use Rattle.upd_core.specs.declared.target.Target.{Target}
-use Rattle.upd_core.specs.Edits.{introduced, next_age, new_card, unheld, entered, without_idents, with_deck, with_card, with_yank, with_entries, purged}
-use Rattle.upd_core.specs.Edits.{entered_range}
-use Rattle.upd_core.specs.Edits.{purged_in}
-use Rattle.upd_core.specs.Library.{CardView, DeckView, LibraryView, empty, all_decks, is_deck, with_cards}
-use Rattle.upd_core.specs.Sound.{all_cards}
-use Rattle.upd_deck.specs.Items.{ItemView, LineView}
-use Rattle.upd_apply.specs.declared.CurrentSet.{CurrentSet}
-use Rattle.upd_apply.specs.declared.state.InsertPoint.{InsertPoint}
-use Rattle.upd_apply.specs.declared.state.InsertPoint.TheVariants.{Nowhere, End, Inside}
-use Rattle.upd_apply.specs.declared.state.State.{State}
-use Rattle.upd_apply.specs.Applying.{Reached, applied, started, stepped}
-use Rattle.upd_apply.specs.Directives.{new_name_of}
-use Rattle.upd_apply.specs.LineEdits.{Edit, Stays, NewSet, NewDeck, AddsAtEnd, AddsInside, Switches, AddsYank, Purges, PurgesIn}
-use Rattle.upd_apply.specs.LineEdits.{carried, ended}
-use Rattle.upd_apply.specs.Step.{step}
-use Rattle.upd_apply.proofs.BindLemmas.{bind_ok, holds_of, line_is}
-use Rattle.upd_apply.proofs.EditLemmas.{Fits, of_step, purges_keep}
-use Rattle.upd_laws.specs.ReadRuns.{HasLineTexts, IsLineText, IsOfRun, WereRead}
-use Rattle.upd_laws.specs.Soundness.{after_run, after_runs}
 use Rattle.upd_laws.proofs.ReadLineLemmas.{BringsName, IsReadLine, run_read}
 use Rattle.upd_laws.proofs.SoundListLemmas.{all_append, all_each, all_flat, all_map, all_weaker, more_all, at_first_all}
-use Rattle.upd_core.proofs.FoundLemmas.{flat}
 use Rattle.upd_laws.proofs.SoundCardLemmas.{changed, decks_with, idents_with, insert_more, more_with_yank, more_with_deck, all_purged, all_purged_in}
 use Rattle.upd_laws.proofs.SoundRunLemmas.{reached_by}
 
@@ -122,7 +98,8 @@ record IsMade (k : ℕ) (s : State) : Type 0 where
   pub current_set : IfSome s.current_set (λ (h : CurrentSet). IsUpTo k h.next)
   pub insert_point : IsSpotUpTo k s.insert_point
 
-more_hand : (k : ℕ) (current_set : Option CurrentSet) → IfSome current_set (λ (h : CurrentSet). IsUpTo k h.next) → IfSome current_set (λ (h : CurrentSet). IsUpTo (k + 1) h.next)
+more_hand : (k : ℕ) (current_set : Option CurrentSet) → IfSome current_set (λ (h : CurrentSet). IsUpTo k h.next)
+    → IfSome current_set (λ (h : CurrentSet). IsUpTo (k + 1) h.next)
 more_hand k None up = tt
 more_hand k (Some current_set) up = (up.0, let most = up.1 in omega arith)
 
@@ -132,7 +109,11 @@ more_spot k (End d n) up = (up.0, let most = up.1 in omega arith)
 more_spot k (Inside d behind) up = tt
 
 more_made : (k : ℕ) (s : State) → IsMade k s → IsMade (k + 1) s
-more_made k s made = record { library = made.library; current_set = more_hand k s.current_set made.current_set; insert_point = more_spot k s.insert_point made.insert_point }
+more_made k s made = record {
+  library = made.library;
+  current_set = more_hand k s.current_set made.current_set;
+  insert_point = more_spot k s.insert_point made.insert_point;
+}
 
 ended_made : (k : ℕ) (l : LibraryView) → HasLineTexts l → IsMade k (ended l)
 ended_made k l made = record { library = made; current_set = tt; insert_point = tt }
@@ -176,7 +157,8 @@ edit_made k item text s (AddsInside d after c added) some few line named fits ma
     let up = hand_up k s c fits.held made in
     let most = up.1 in
     record {
-      library = made_card d after (new_card c.ident c.next added []) s.library (is_of_run k c.ident c.next text added [] few up line fits.same_text) made.library;
+      library = made_card d after (new_card c.ident c.next added []) s.library
+          (is_of_run k c.ident c.next text added [] few up line fits.same_text) made.library;
       current_set = (omega arith, omega arith);
       insert_point = more_spot k s.insert_point made.insert_point;
     }

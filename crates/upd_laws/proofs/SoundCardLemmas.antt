@@ -1,25 +1,15 @@
 -- What each edit does to the cards of a library.
-use Rattle.std.proofs.Common.{◌≡◌, ℕ, zero, suc, ◌+◌, ◌-◌, ◌<◌, ◌≤◌, Bool, true, false, not, ◌||◌, List, [], ◌∷◌, ◌++◌, map, length, take, drop, inl, inr}
-use Rattle.std.proofs.Common.{refl, sym, ap, ◌∙◌, subst, arith, append_assoc}
-use Rattle.std.proofs.lemmas.Bool.{ne_eqb, or_cases, or_left, or_right}
+use Rattle.upd_laws.proofs.Common.{◌≡◌, ℕ, zero, suc, ◌+◌, ◌-◌, ◌<◌, ◌≤◌, Bool, true, false, not, ◌||◌, List, [], ◌∷◌, ◌++◌, map, length, take, drop, inl}
+use Rattle.upd_laws.proofs.Common.{inr, refl, sym, ap, ◌∙◌, subst, arith, append_assoc, ne_eqb, or_cases, or_left, or_right, Some, ◌==◌, ◌⊎◌, insert, IsTrue}
+use Rattle.upd_laws.proofs.Common.{option_map_or, list_any, find, filter, AllByRecursion, AllZip, Entry, Ident, unheld, entered, without_entries}
+use Rattle.upd_laws.proofs.Common.{without_idents, deck_without, decks_without, purged, with_card, with_deck, with_yank, entered_range, with_entries}
+use Rattle.upd_laws.proofs.Common.{at_first, CardView, DeckView, LibraryView, all_decks, cards_of, is_deck, with_cards, is_held, stands, BeginsOn}
+use Rattle.upd_laws.proofs.Common.{BeginsWithItsOwn, HasNoTargets, IsOfHeld, key_of, all_cards, all_front, all_back, flat}
 use Rattle.std.proofs.lemmas.List.{take-append-drop}
-use Rattle.std.specs.Prelude.{Some, ◌==◌, ◌⊎◌, insert, IsTrue}
-use Rattle.std.specs.Option.{option_map_or}
-use Rattle.std.specs.List.{list_any, find, filter, AllByRecursion, AllZip}
-use Rattle.upd_core.specs.declared.card.Entry.{Entry}
-use Rattle.upd_core.specs.declared.ident.Ident.{Ident}
-use Rattle.upd_core.specs.Edits.{unheld, entered, without_entries, without_idents, deck_without, decks_without, purged, with_card, with_deck, with_yank}
-use Rattle.upd_core.specs.Edits.{entered_range}
-use Rattle.upd_core.specs.Edits.{with_entries}
-use Rattle.upd_core.specs.First.{at_first}
-use Rattle.upd_core.specs.Library.{CardView, DeckView, LibraryView, all_decks, cards_of, is_deck, with_cards}
-use Rattle.upd_core.specs.Sound.{is_held, stands, BeginsOn, BeginsWithItsOwn, HasNoTargets, IsOfHeld, key_of, all_cards}
 use Rattle.upd_laws.proofs.SoundListLemmas.{same_number, is_same_number, other_number, all_append, all_each, all_flat, HasMore}
 use Rattle.upd_laws.proofs.SoundListLemmas.{more_front, IsPart, none, fewer, kept, part_append, part_without, zip_same, at_first_all, at_first_any}
 use Rattle.upd_laws.proofs.SoundListLemmas.{at_first_find, at_first_more, at_first_zip}
 use Rattle.upd_laws.proofs.SoundIdentLemmas.{held_still}
-use Rattle.upd_core.proofs.ApartLemmas.{all_front, all_back}
-use Rattle.upd_core.proofs.FoundLemmas.{flat}
 pub use Rattle.upd_apply.proofs.DirectoryLemmas.{idents_with}
 
 -- a deck with its cards changed

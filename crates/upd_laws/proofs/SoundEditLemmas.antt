@@ -1,31 +1,17 @@
 -- Each edit keeps a library sound.
-use Rattle.std.proofs.Common.{◌≡◌, ℕ, zero, suc, ◌+◌, ◌-◌, ◌<◌, ◌≤◌, Bool, true, false, cond, not, ◌||◌, List, [], ◌∷◌, ◌++◌, map, length, inl}
-use Rattle.std.proofs.Common.{inr, refl, sym, ap, ◌∙◌, subst, arith}
-use Rattle.std.proofs.lemmas.Bool.{ne_eqb, or_cases, or_left, or_right}
-use Rattle.std.specs.Prelude.{Some, None, ◌==◌, ◌⊎◌, insert, IsTrue}
-use Rattle.std.specs.Str.{bytes_eq}
-use Rattle.std.specs.Option.{option_map_or}
-use Rattle.std.specs.List.{filter, find, list_any, AllByRecursion, AllZip}
-use Rattle.upd_core.specs.declared.card.Entry.{Entry}
-use Rattle.upd_core.specs.declared.ident.Ident.{Ident}
-use Rattle.upd_core.specs.declared.ident.Kind.{Kind}
+use Rattle.upd_laws.proofs.Common.{◌≡◌, ℕ, zero, suc, ◌+◌, ◌-◌, ◌<◌, ◌≤◌, Bool, true, false, cond, not, ◌||◌, List, [], ◌∷◌, ◌++◌, map, length, inl, inr}
+use Rattle.upd_laws.proofs.Common.{refl, sym, ap, ◌∙◌, subst, arith, ne_eqb, or_cases, or_left, or_right, Some, None, ◌==◌, ◌⊎◌, insert, IsTrue, bytes_eq}
+use Rattle.upd_laws.proofs.Common.{option_map_or, filter, find, list_any, AllByRecursion, AllZip, Entry, Ident, Kind, Target, introduced, next_age, new_card}
+use Rattle.upd_laws.proofs.Common.{unheld, without_entries, without_idents, decks_without, with_card, with_deck, entered_range, with_yank, with_entries}
+use Rattle.upd_laws.proofs.Common.{purged, purged_in, at_first, CardView, DeckView, LibraryView, all_decks, cards_of, held_named, is_deck, is_deck_kind}
+use Rattle.upd_laws.proofs.Common.{with_cards, AreAgedFrom, AreApart, AreRising, is_held, is_held_deck, stands, BeginsOn, BeginsWithItsOwn, HasNoTargets}
+use Rattle.upd_laws.proofs.Common.{IsOfHeld, key_of, all_cards, IsSound, IsAged, yank_name, flat}
 use Rattle.upd_core.specs.declared.ident.Kind.TheVariants as kind
-use Rattle.upd_core.specs.declared.target.Target.{Target}
-use Rattle.upd_core.specs.Edits.{introduced, next_age, new_card, unheld, without_entries, without_idents, decks_without, with_card, with_deck}
-use Rattle.upd_core.specs.Edits.{entered_range}
-use Rattle.upd_core.specs.Edits.{with_yank, with_entries, purged, purged_in}
-use Rattle.upd_core.specs.First.{at_first}
-use Rattle.upd_core.specs.Library.{CardView, DeckView, LibraryView, all_decks, cards_of, held_named, is_deck, is_deck_kind, with_cards}
-use Rattle.upd_core.specs.Sound.{AreAgedFrom, AreApart, AreRising, is_held, is_held_deck, stands, BeginsOn, BeginsWithItsOwn, HasNoTargets, IsOfHeld}
-use Rattle.upd_core.specs.Sound.{key_of, all_cards, IsSound}
-use Rattle.upd_core.specs.Status.{IsAged}
-use Rattle.upd_text.specs.Names.{yank_name}
 use Rattle.upd_laws.proofs.SoundListLemmas.{same_number, is_same_number, other_number, all_append, all_weaker, all_filter, all_map}
 use Rattle.upd_laws.proofs.SoundListLemmas.{rising_end, any_front, any_last, more_all, more_apart, IsPart, none, kept, part_apart, part_rising, part_append}
 use Rattle.upd_laws.proofs.SoundListLemmas.{zip_all, zip_part, at_first_all, at_first_map, at_first_part, find_passes}
 use Rattle.upd_laws.proofs.SoundIdentLemmas.{ages_end, ages_unheld, held_within, held_more, held_deck_more, held_deck_last, held_deck_held, held_deck_end}
 use Rattle.upd_laws.proofs.SoundIdentLemmas.{held_deck_was, held_deck_still, names_end, names_unheld, unnamed_end, unnamed_still}
-use Rattle.upd_core.proofs.FoundLemmas.{flat}
 use Rattle.upd_laws.proofs.SoundCardLemmas.{changed, decks_with, standing_by_ages, standing_still, insert_more, more_with_card, more_with_yank}
 use Rattle.upd_laws.proofs.SoundCardLemmas.{more_with_deck, IsEntered, entered_some, zip_with_entries, all_without, all_purged, all_purged_in, keys_without}
 use Rattle.upd_laws.proofs.SoundCardLemmas.{keys_decks, ages_decks, all_decks_without, held_without, begins_without, begins_entered, plain_without}

@@ -1,16 +1,9 @@
 -- The directory: its serials, the names that are held, which idents are held, and how it is extended.
-use Rattle.std.proofs.Common.{◌≡◌, ℕ, ◌+◌, ◌<◌, ◌≤◌, Bool, true, false, cond, not, ◌&&◌, List, [], ◌∷◌, ◌++◌, map, length, inl, inr, refl, sym, ap, ◌∙◌}
-use Rattle.std.proofs.Common.{subst, arith}
-use Rattle.std.proofs.lemmas.Bool.{or_cases, or_left, or_right}
+use Rattle.upd_laws.proofs.Common.{◌≡◌, ℕ, ◌+◌, ◌<◌, ◌≤◌, Bool, true, false, cond, not, ◌&&◌, List, [], ◌∷◌, ◌++◌, map, length, inl, inr, refl, sym, ap, ◌∙◌}
+use Rattle.upd_laws.proofs.Common.{subst, arith, or_cases, or_left, or_right, Option, Some, None, is_some, ◌==◌, ◌⊎◌, bytes_eq, filter, find, AllByRecursion}
+use Rattle.upd_laws.proofs.Common.{Ident, unheld, held_named, is_deck_kind, AreApart, AreAgedFrom, is_held, is_held_deck}
 use Rattle.std.proofs.lemmas.List.Elements.{filter-append}
 use Rattle.std.proofs.lemmas.Slice.Eq.{bytes_eq-Decides}
-use Rattle.std.specs.Prelude.{Option, Some, None, is_some, ◌==◌, ◌⊎◌}
-use Rattle.std.specs.Str.{bytes_eq}
-use Rattle.std.specs.List.{filter, find, AllByRecursion}
-use Rattle.upd_core.specs.declared.ident.Ident.{Ident}
-use Rattle.upd_core.specs.Edits.{unheld}
-use Rattle.upd_core.specs.Library.{held_named, is_deck_kind}
-use Rattle.upd_core.specs.Sound.{AreApart, AreAgedFrom, is_held, is_held_deck}
 use Rattle.upd_laws.proofs.SoundListLemmas.{and_left, and_right, both, same_number, is_same_number, apart_end, all_filter, all_map}
 use Rattle.upd_laws.proofs.SoundListLemmas.{all_weaker, IsPart, none, fewer, kept, any_end, any_front, any_last, any_mapped, any_weaker, find_none_end}
 use Rattle.upd_laws.proofs.SoundListLemmas.{find_none_mapped}

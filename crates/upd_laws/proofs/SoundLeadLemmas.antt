@@ -1,14 +1,8 @@
 -- What a line leaves of the limits, and of the cards and entries of decks that aren't loaded.
-use Rattle.std.proofs.Common.{◌≡◌, ◌-◌, true, [], length, refl, ◌∙◌}
-use Rattle.std.specs.Prelude.{Ok, ◌==◌, insert}
-use Rattle.upd_core.specs.Edits.{entered_range, new_card, without_idents}
-use Rattle.upd_core.specs.Limits.{is_within_limits}
-use Rattle.upd_deck.specs.Items.{LineView}
-use Rattle.upd_apply.specs.declared.state.State.{State}
-use Rattle.upd_apply.specs.LineEdits.{Edit, Stays, MovesAfter, MovesBefore, AddsAtEnd, AddsInside, Switches, Purges, PurgesIn}
-use Rattle.upd_apply.specs.LineEdits.{carried}
-use Rattle.upd_apply.specs.Step.{step}
-use Rattle.upd_apply.proofs.EditLemmas.{IsWithin, of_step, purges_keep}
+use Rattle.upd_laws.proofs.Common.{◌≡◌, ◌-◌, true, [], length, refl, ◌∙◌, Ok, ◌==◌, insert, entered_range, new_card, without_idents, is_within_limits}
+use Rattle.upd_laws.proofs.Common.{LineView, State, Edit, Stays, MovesAfter, MovesBefore, AddsAtEnd, AddsInside, Switches, Purges, PurgesIn, carried, step}
+use Rattle.upd_laws.proofs.Common.{of_step, purges_keep}
+use Rattle.upd_apply.proofs.EditLemmas.{IsWithin}
 use Rattle.upd_laws.proofs.SoundCardLemmas.{rest_with}
 use Rattle.upd_laws.proofs.SoundLimitLemmas.{purged_within, purged_in_within}
 

@@ -1,17 +1,11 @@
 -- No line takes a library past its limits.
-use Rattle.std.proofs.Common.{◌≡◌, ℕ, ◌≤◌, Bool, true, false, cond, not, ◌&&◌, List, [], ◌∷◌, map, length, refl, sym, ap, subst, arith}
-use Rattle.std.proofs.lemmas.Bool.Decides.{nat_tests}
-use Rattle.std.proofs.lemmas.List.Sums.{sum_by-cons}
-use Rattle.std.specs.Prelude.{◌==◌, nat_le, sum_by, count_by}
-use Rattle.std.specs.List.{filter}
-use Rattle.upd_core.specs.declared.card.Entry.{Entry}
-use Rattle.upd_core.specs.declared.ident.Ident.{Ident}
+use Rattle.upd_laws.proofs.Common.{◌≡◌, ℕ, ◌≤◌, Bool, true, false, cond, not, ◌&&◌, List, [], ◌∷◌, map, length, refl, sym, ap, subst, arith, nat_tests}
+use Rattle.upd_laws.proofs.Common.{sum_by-cons, ◌==◌, nat_le, count_by, filter, Entry, Ident, unheld, without_entries, without_idents, deck_without}
+use Rattle.upd_laws.proofs.Common.{decks_without, purged, purged_in, at_first, CardView, DeckView, LibraryView, all_decks, is_deck, is_within_limits}
+use Rattle.std.specs.Prelude.{sum_by}
 use Rattle.upd_core.specs.declared.library.Rest.{Rest}
 use Rattle.upd_text.specs.declared.limits.TheConstants.{MAX_HELD, MAX_INTRODUCED, MAX_CARDS, MAX_ENTRIES, MAX_TARGETS}
-use Rattle.upd_core.specs.Edits.{unheld, without_entries, without_idents, deck_without, decks_without, purged, purged_in}
-use Rattle.upd_core.specs.First.{at_first}
-use Rattle.upd_core.specs.Library.{CardView, DeckView, LibraryView, all_decks, is_deck}
-use Rattle.upd_core.specs.Limits.{card_count, entry_count, target_count, held_count, is_within_limits}
+use Rattle.upd_core.specs.Limits.{card_count, entry_count, target_count, held_count}
 use Rattle.upd_laws.proofs.SoundListLemmas.{and_left, and_right, both}
 use Rattle.upd_laws.proofs.SoundCardLemmas.{changed, decks_with, idents_with, rest_with}
 

@@ -1,14 +1,10 @@
 -- Lists: facts of each element, lists whose elements differ, and lists with one element more or with some fewer.
-use Rattle.std.proofs.Common.{◌≡◌, ℕ, ◌+◌, ◌<◌, Bool, true, false, cond, ◌&&◌, ◌||◌, List, [], ◌∷◌, ◌++◌, map, length, inl, inr, refl, sym, ap, ◌∙◌, subst}
-use Rattle.std.proofs.Common.{arith, append_assoc}
-use Rattle.std.proofs.lemmas.Bool.{or_cases, or_left, or_right}
+use Rattle.upd_laws.proofs.Common.{◌≡◌, ℕ, ◌+◌, ◌<◌, Bool, true, false, cond, ◌&&◌, ◌||◌, List, [], ◌∷◌, ◌++◌, map, length, inl, inr, refl, sym, ap, ◌∙◌}
+use Rattle.upd_laws.proofs.Common.{subst, arith, append_assoc, or_cases, or_left, or_right, sum_by-cons, Some, None, ◌==◌, ◌⊎◌, count_by, list_any, find}
+use Rattle.upd_laws.proofs.Common.{filter, flat_map, AllByRecursion, AllZip, at_first, AreApart, AreRising, all_front, all_back}
 use Rattle.std.proofs.lemmas.Bool.Decides.{Decides-eqb}
-use Rattle.std.proofs.lemmas.List.Sums.{sum_by-append, sum_by-cons}
-use Rattle.std.specs.Prelude.{Some, None, ◌==◌, ◌⊎◌, count_by}
-use Rattle.std.specs.List.{list_any, find, filter, flat_map, AllByRecursion, AllZip}
-use Rattle.upd_core.specs.First.{at_first}
-use Rattle.upd_core.specs.Sound.{AreApart, AreRising}
-use Rattle.upd_core.proofs.ApartLemmas.{all_front, all_back, all_mapped}
+use Rattle.std.proofs.lemmas.List.Sums.{sum_by-append}
+use Rattle.upd_core.proofs.ApartLemmas.{all_mapped}
 
 -- ---- tests
 
@@ -39,9 +35,6 @@ is_same_number a b e = (Decides-eqb a b).1 e
 
 pub other_number : (a b : ℕ) → (a == b) ≡ false → a ≡ b → ⊥
 other_number a b e same = let f = is_same_number a b same in cc
-
-pub differ : (a b : Bool) → a ≡ true → b ≡ false → a ≡ b → ⊥
-differ a b e f same = cc
 
 -- ---- facts of each element
 

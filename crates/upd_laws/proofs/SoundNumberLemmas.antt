@@ -1,14 +1,6 @@
 -- The next number of an ident.
-use Rattle.std.proofs.Common.{◌≡◌, ℕ, ◌+◌, ◌<◌, cond, List, [], ◌∷◌, refl, sym, ap, ◌∙◌, arith}
-use Rattle.std.proofs.lemmas.Bool.{ne_eqb}
-use Rattle.std.proofs.lemmas.List.Sums.{sum_by-cons}
-use Rattle.std.specs.Prelude.{◌==◌, count_by, IsTrue}
-use Rattle.std.specs.List.{AllByRecursion, AllZip}
-use Rattle.upd_core.specs.declared.card.Entry.{Entry}
-use Rattle.upd_core.specs.Edits.{new_card}
-use Rattle.upd_core.specs.Library.{CardView, LibraryView}
-use Rattle.upd_core.specs.Sound.{all_cards, is_held}
-use Rattle.upd_laws.specs.Soundness.{IsNext}
+use Rattle.upd_laws.proofs.Common.{◌≡◌, ℕ, ◌+◌, ◌<◌, cond, List, [], ◌∷◌, refl, sym, ap, ◌∙◌, arith, ne_eqb, sum_by-cons, ◌==◌, count_by, IsTrue}
+use Rattle.upd_laws.proofs.Common.{AllByRecursion, AllZip, Entry, new_card, CardView, LibraryView, all_cards, is_held, IsNext}
 use Rattle.upd_laws.proofs.SoundListLemmas.{is_same_number, all_weaker, HasMore, more_all, more_count, zip_all, zip_count}
 use Rattle.upd_laws.proofs.SoundCardLemmas.{IsEntered}
 use Rattle.upd_laws.proofs.SoundYankLemmas.{same_ident, same_number_of}

@@ -1,10 +1,8 @@
 -- What is known where a step is Ok.
-use Rattle.std.proofs.Common.{◌≡◌, Bool, true, false, refl, ap}
-use Rattle.std.specs.Prelude.{List, [], ◌∷◌, ◌++◌, Option, Some, None, Result, Ok}
-use Rattle.std.specs.List.{AllByRecursion}
-use Rattle.upd_text.specs.declared.fault.FaultKind.{FaultKind}
-use Rattle.upd_text.specs.Outcome.{◌>>=◌, each, need, refuse_if}
-use Rattle.upd_apply.proofs.BindLemmas.{bind_ok, holds_of}
+use Rattle.upd_laws.proofs.Common.{◌≡◌, Bool, true, false, refl, ap, Option, Some, None, Result, Ok, AllByRecursion, FaultKind, ◌>>=◌, each, refuse_if}
+use Rattle.upd_laws.proofs.Common.{bind_ok, holds_of}
+use Rattle.std.specs.Prelude.{List, [], ◌∷◌, ◌++◌}
+use Rattle.upd_text.specs.Outcome.{need}
 use Rattle.upd_laws.proofs.SoundListLemmas.{all_append}
 
 pub need_ok : {A : Type 0} (fault : FaultKind) (o : Option A) (y : A) (P : Type 0) → need fault o ≡ Ok y → (o ≡ Some y → P) → P

@@ -1,28 +1,18 @@
 -- Lines and runs keep what is sound, extend the directory, and stay within the limits.
-use Rattle.std.proofs.Common.{◌≡◌, ℕ, ◌+◌, true, false, List, [], ◌∷◌, length, refl, ◌∙◌, subst}
-use Rattle.std.specs.Prelude.{◌==◌, Bool, not, ◌&&◌, Option, Some, None, is_some, Result, Ok, Err}
-use Rattle.upd_text.specs.declared.fault.Fault.{Fault}
+use Rattle.upd_laws.proofs.Common.{◌≡◌, ℕ, ◌+◌, true, false, List, [], ◌∷◌, length, refl, ◌∙◌, subst, ◌==◌, Option, Some, None, is_some, Result, Ok, Err}
+use Rattle.upd_laws.proofs.Common.{Fault, Target, purged, LibraryView, cards_of, empty, is_within_limits, ◌>>=◌, refuse_if, AreAgedFrom, IsSound, ItemView}
+use Rattle.upd_laws.proofs.Common.{LineView, Text, CurrentSet, InsertPoint, Nowhere, End, Inside, State, Reached, applied, started, stepped, named_decks}
+use Rattle.upd_laws.proofs.Common.{Edit, Stays, MovesAfter, MovesBefore, NewSet, NewDeck, AddsAtEnd, AddsInside, Switches, AddsYank, Purges, PurgesIn, behind}
+use Rattle.upd_laws.proofs.Common.{carried, purged_in_all, step, bind_ok, holds_of, Fits, of_step, steps_keep, IsCurrentSet, IsHandSound, IsAtEnd, IsInside}
+use Rattle.upd_laws.proofs.Common.{IsSpotSound, IsSoundState, after_run, after_runs}
+use Rattle.std.specs.Prelude.{Bool, not, ◌&&◌}
 use Rattle.upd_text.specs.declared.fault.FaultKind.TheVariants as fault
-use Rattle.upd_core.specs.declared.target.Target.{Target}
-use Rattle.upd_core.specs.Edits.{purged}
-use Rattle.upd_core.specs.Library.{LibraryView, cards_of, empty}
-use Rattle.upd_core.specs.Limits.{is_within_limits}
-use Rattle.upd_text.specs.Outcome.{◌>>=◌, refuse_if}
-use Rattle.upd_core.specs.Sound.{AreAgedFrom, IsSound, IsWhole, Continues}
-use Rattle.upd_deck.specs.Items.{ItemView, LineView, Text}
-use Rattle.upd_apply.specs.declared.CurrentSet.{CurrentSet}
-use Rattle.upd_apply.specs.declared.state.InsertPoint.{InsertPoint}
-use Rattle.upd_apply.specs.declared.state.InsertPoint.TheVariants.{Nowhere, End, Inside}
-use Rattle.upd_apply.specs.declared.state.State.{State}
-use Rattle.upd_apply.specs.Applying.{Reached, applied, started, stepped}
-use Rattle.upd_apply.specs.Compile.{named_decks}
-use Rattle.upd_apply.specs.LineEdits.{Edit, Stays, MovesAfter, MovesBefore, NewSet, NewDeck, AddsAtEnd, AddsInside, Switches, AddsYank, Purges, PurgesIn}
-use Rattle.upd_apply.specs.LineEdits.{adds, behind, carried, purged_in_all}
-use Rattle.upd_apply.specs.Step.{carried_out, judged, step, text_judged}
-use Rattle.upd_apply.proofs.BindLemmas.{bind_ok, holds_of}
+use Rattle.upd_core.specs.Sound.{IsWhole, Continues}
+use Rattle.upd_apply.specs.LineEdits.{adds}
+use Rattle.upd_apply.specs.Step.{carried_out, judged, text_judged}
 use Rattle.upd_apply.proofs.DirectoryLemmas.{continues_on, continues_same, steps_go_on}
-use Rattle.upd_apply.proofs.EditLemmas.{AreNamed, BySets, ByPairs, ByDecks, Fits, of_step, steps_keep}
-use Rattle.upd_laws.specs.Soundness.{count_of, IsCurrentSet, IsHandSound, IsAtEnd, IsInside, IsSpotSound, IsSoundState, after_run, after_runs}
+use Rattle.upd_apply.proofs.EditLemmas.{AreNamed, BySets, ByPairs, ByDecks}
+use Rattle.upd_laws.specs.Soundness.{count_of}
 use Rattle.upd_laws.proofs.SoundYankLemmas.{AreYanked, sets_are, pairs_are, decks_are}
 use Rattle.upd_laws.proofs.SoundEditLemmas.{purged_sound}
 use Rattle.upd_laws.proofs.SoundLeadLemmas.{step_rests, step_within}
@@ -137,7 +127,8 @@ runs_go (run ∷ runs) l = continues_on l.idents (after_run l (applied run l)).i
 
 -- ---- the next numbers
 
-pub hand_counted : (lines : List LineView) (l : LibraryView) (s : State) (current_set : CurrentSet) → IsSound l → stepped lines (started l) ≡ Ok s → s.current_set ≡ Some current_set
+pub hand_counted : (lines : List LineView) (l : LibraryView) (s : State) (current_set : CurrentSet) → IsSound l → stepped lines (started l) ≡ Ok s
+    → s.current_set ≡ Some current_set
     → current_set.next ≡ count_of current_set.ident s.library + 1
 hand_counted lines l s current_set sound h e =
     let state = steps_sound lines (started l) s (started_sound l sound) h in

@@ -1,44 +1,28 @@
 -- Each line keeps a state sound.
-use Rattle.std.proofs.Common.{◌≡◌, ℕ, ◌+◌, ◌-◌, ◌<◌, ◌≤◌, Bool, true, false, List, [], ◌∷◌, length, inl, inr, refl, sym}
-use Rattle.std.proofs.Common.{ap, ◌∙◌, subst, arith}
+use Rattle.upd_laws.proofs.Common.{◌≡◌, ℕ, ◌+◌, ◌-◌, ◌<◌, ◌≤◌, Bool, true, false, List, [], ◌∷◌, length, inl, inr, refl, sym, ap, ◌∙◌, subst, arith, Option}
+use Rattle.upd_laws.proofs.Common.{Some, None, is_some, Ok, ◌==◌, ◌⊎◌, insert, IsTrue, IfSome, AllByRecursion, CardRef, Ident, Kind, Place, Target}
+use Rattle.upd_laws.proofs.Common.{introduced, next_age, new_card, with_deck, with_card, with_yank, purged_in, CardView, DeckView, LibraryView, all_decks}
+use Rattle.upd_laws.proofs.Common.{cards_of, held_named, is_deck, is_deck_kind, refuse_if, all_cards, is_held, is_held_deck, stands, IsSound, IdentIn}
+use Rattle.upd_laws.proofs.Common.{ItemView, CurrentSet, Inside, State, NewSet, NewDeck, AddsAtEnd, AddsInside, AddsYank, carried, ended, purged_in_all}
+use Rattle.upd_laws.proofs.Common.{bind_ok, holds_of, is_reserved, known_deck, known_ident, IsNext, IsCurrentSet, IsHandSound, IsAtEnd, IsInside, IsSpotSound}
+use Rattle.upd_laws.proofs.Common.{IsSoundState, all_front, flat}
 use Rattle.std.proofs.lemmas.List.Edits.{length-insert}
 use Rattle.std.proofs.lemmas.Option.{slice_get_within}
-use Rattle.std.specs.Prelude.{Option, Some, None, is_some, Ok, ◌==◌, ◌⊎◌, insert, IsTrue}
-use Rattle.std.specs.Option.{IfSome}
-use Rattle.std.specs.List.{AllByRecursion}
-use Rattle.upd_text.specs.declared.card_ref.CardRef.{CardRef}
 use Rattle.upd_text.specs.declared.fault.FaultKind.TheVariants as fault
-use Rattle.upd_core.specs.declared.ident.Ident.{Ident}
-use Rattle.upd_core.specs.declared.ident.Kind.{Kind}
 use Rattle.upd_core.specs.declared.ident.Kind.TheVariants as kind
-use Rattle.upd_core.specs.declared.library.Place.{Place}
-use Rattle.upd_core.specs.declared.target.Target.{Target}
-use Rattle.upd_core.specs.Edits.{introduced, next_age, new_card, with_deck, with_card, with_yank, purged_in}
-use Rattle.upd_core.specs.Library.{CardView, DeckView, LibraryView, all_decks, cards_of, held_named, is_deck, is_deck_kind, place_of}
-use Rattle.upd_text.specs.Outcome.{refuse_if}
-use Rattle.upd_core.specs.Sound.{all_cards, is_held, is_held_deck, stands, IsSound}
-use Rattle.upd_deck.specs.declared.item.IdentIn.{IdentIn}
-use Rattle.upd_deck.specs.Items.{ItemView}
-use Rattle.upd_apply.specs.declared.CurrentSet.{CurrentSet}
-use Rattle.upd_apply.specs.declared.state.InsertPoint.TheVariants.{Inside}
-use Rattle.upd_apply.specs.declared.state.State.{State}
-use Rattle.upd_apply.specs.LineEdits.{NewSet, NewDeck, AddsAtEnd, AddsInside, AddsYank, after_card, carried, ended, purged_in_all}
+use Rattle.upd_core.specs.Library.{place_of}
+use Rattle.upd_apply.specs.LineEdits.{after_card}
 use Rattle.upd_apply.specs.Step.{is_deck_card, new_name}
-use Rattle.upd_apply.proofs.BindLemmas.{bind_ok, holds_of}
 use Rattle.upd_apply.proofs.EditLemmas.{IsMove}
-use Rattle.upd_apply.specs.Names.{is_reserved, known_deck, known_ident}
 use Rattle.upd_apply.specs.Purges.{AgesIn, pair_ages, pairs_purged}
-use Rattle.upd_laws.specs.Soundness.{IsNext, IsCurrentSet, IsHandSound, IsAtEnd, IsInside, IsSpotSound, IsSoundState}
 use Rattle.upd_laws.proofs.SoundOutcomeLemmas.{each_all, refusal_ok}
 use Rattle.upd_laws.proofs.SoundListLemmas.{is_same_number, other_number, any_last, all_append, all_weaker, HasMore}
 use Rattle.upd_laws.proofs.SoundIdentLemmas.{held_within, held_more, held_last, held_deck_last, held_deck_held, not_some}
-use Rattle.upd_laws.proofs.SoundCardLemmas.{idents_with, yanks_with, standing_with, cards_with, standing, more_with_card}
-use Rattle.upd_laws.proofs.SoundCardLemmas.{more_with_yank, more_with_deck}
+use Rattle.upd_laws.proofs.SoundCardLemmas.{idents_with, yanks_with, standing_with, cards_with, standing, more_with_card, more_with_yank, more_with_deck}
 use Rattle.upd_laws.proofs.SoundYankLemmas.{AreYanked}
 use Rattle.upd_laws.proofs.SoundEditLemmas.{none_beyond, introduced_sound, cards_below, deck_sound, card_sound, yank_sound, purged_in_sound}
 use Rattle.upd_laws.proofs.SoundNumberLemmas.{next_first, next_own, next_other, next_new}
-use Rattle.upd_core.proofs.ApartLemmas.{all_front}
-use Rattle.upd_core.proofs.FoundLemmas.{card_of_place, flat}
+use Rattle.upd_core.proofs.FoundLemmas.{card_of_place}
 
 -- ---- new idents
 
@@ -78,7 +62,8 @@ set_sound name b s new sound = record {
 
 -- ---- the current set while the library changes
 
-hand_moved : (current_set : Option CurrentSet) (l m : LibraryView) → ((h : CurrentSet) → IsCurrentSet h l → IsCurrentSet h m) → IsHandSound current_set l → IsHandSound current_set m
+hand_moved : (current_set : Option CurrentSet) (l m : LibraryView) → ((h : CurrentSet) → IsCurrentSet h l → IsCurrentSet h m) → IsHandSound current_set l
+    → IsHandSound current_set m
 hand_moved None l m k h = tt
 hand_moved (Some current_set) l m k h = k current_set h
 

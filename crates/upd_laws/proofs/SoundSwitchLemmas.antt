@@ -1,23 +1,10 @@
 -- Switching cards on or off keeps the state of a run sound.
-use Rattle.std.proofs.Common.{◌≡◌, ◌+◌, ◌<◌, ◌≤◌, Bool, true, false, not, ◌||◌, List, length, inr, refl, sym}
-use Rattle.std.proofs.Common.{ap, ◌∙◌, subst, arith}
-use Rattle.std.proofs.lemmas.Bool.Decides.{nat_tests}
-use Rattle.std.specs.Prelude.{is_some, ◌==◌, nat_lt, IsTrue}
-use Rattle.std.specs.List.{AllZip}
-use Rattle.upd_core.specs.declared.card.Entry.{Entry}
-use Rattle.upd_core.specs.declared.library.Place.{Place}
-use Rattle.upd_core.specs.Edits.{entered_range, with_entries}
-use Rattle.upd_core.specs.Library.{CardView, LibraryView, cards_of}
-use Rattle.upd_core.specs.Sound.{is_held}
-use Rattle.upd_deck.specs.Items.{ItemView}
-use Rattle.upd_apply.specs.declared.CurrentSet.{CurrentSet}
-use Rattle.upd_apply.specs.declared.state.State.{State}
-use Rattle.upd_apply.specs.LineEdits.{Switches, behind, carried}
+use Rattle.upd_laws.proofs.Common.{◌≡◌, ◌+◌, ◌<◌, ◌≤◌, Bool, true, false, not, ◌||◌, List, length, inr, refl, sym, ap, ◌∙◌, subst, arith, nat_tests, is_some}
+use Rattle.upd_laws.proofs.Common.{◌==◌, nat_lt, IsTrue, AllZip, Entry, Place, entered_range, with_entries, CardView, LibraryView, cards_of, is_held}
+use Rattle.upd_laws.proofs.Common.{ItemView, CurrentSet, State, Switches, behind, carried, IsCurrentSet, IsHandSound, IsSoundState}
 use Rattle.upd_apply.proofs.EditLemmas.{IsSwitch}
-use Rattle.upd_laws.specs.Soundness.{IsCurrentSet, IsHandSound, IsSoundState}
 use Rattle.upd_laws.proofs.SoundListLemmas.{same_number, zip_all, zip_length}
-use Rattle.upd_laws.proofs.SoundCardLemmas.{IsEntered, entered_some, idents_with, yanks_kept, cards_with, standing}
-use Rattle.upd_laws.proofs.SoundCardLemmas.{zip_with_entries}
+use Rattle.upd_laws.proofs.SoundCardLemmas.{IsEntered, entered_some, idents_with, yanks_kept, cards_with, standing, zip_with_entries}
 use Rattle.upd_laws.proofs.SoundYankLemmas.{same_ident}
 use Rattle.upd_laws.proofs.SoundEditLemmas.{entries_sound}
 use Rattle.upd_laws.proofs.SoundNumberLemmas.{next_entered}

@@ -1,30 +1,21 @@
 -- `YANK$$$` stays in order of serial, and the targets of a yank are older than it and differ.
-use Rattle.std.proofs.Common.{◌≡◌, ℕ, ◌<◌, ◌≤◌, Bool, true, false, not, ◌&&◌, ◌||◌, List, [], ◌∷◌, ◌++◌, inl, inr, refl, sym, ap, subst, arith}
-use Rattle.std.proofs.lemmas.Bool.Decides.{nat_tests}
-use Rattle.std.specs.Prelude.{if◌then◌else◌, Option, Some, None, ◌==◌, nat_le, Result, Ok}
-use Rattle.std.specs.Option.{option_map, option_and_then}
-use Rattle.std.specs.List.{filter, AllByRecursion, AllZip}
-use Rattle.upd_core.specs.declared.card.Entry.{Entry}
+use Rattle.upd_laws.proofs.Common.{◌≡◌, ℕ, ◌<◌, ◌≤◌, Bool, true, false, not, ◌&&◌, ◌||◌, List, [], ◌∷◌, ◌++◌, inl, inr, refl, sym, ap, subst, arith}
+use Rattle.upd_laws.proofs.Common.{nat_tests, Option, Some, None, ◌==◌, nat_le, Result, Ok, option_map, option_and_then, filter, AllByRecursion, AllZip}
+use Rattle.upd_laws.proofs.Common.{Entry, Ident, Target, new_card, without_entries, without_idents, CardView, LibraryView, held_named, is_deck_kind, AreApart}
+use Rattle.upd_laws.proofs.Common.{AreAgedFrom, IsAged, IdentIn, FaultKind, each, is_reserved, known_deck, known_ident, bind_ok, holds_of}
+use Rattle.std.specs.Prelude.{if◌then◌else◌}
 use Rattle.upd_text.specs.declared.fault.FaultKind.TheVariants as fault
-use Rattle.upd_core.specs.declared.ident.Ident.{Ident}
-use Rattle.upd_core.specs.declared.target.Target.{Target}
 use Rattle.upd_core.specs.declared.target.Target.TheVariants.{Set, SetIn, Deck}
-use Rattle.upd_core.specs.Edits.{new_card, without_entries, without_idents}
-use Rattle.upd_core.specs.Library.{CardView, LibraryView, deck_of, held_named, ident_of, is_deck_kind}
-use Rattle.upd_core.specs.Sound.{AreApart, AreAgedFrom}
-use Rattle.upd_core.specs.Status.{IsOlder, TakesOlder, HasEntriesFrom, IsAged}
+use Rattle.upd_core.specs.Library.{deck_of, ident_of}
+use Rattle.upd_core.specs.Status.{IsOlder, TakesOlder, HasEntriesFrom}
 use Rattle.upd_deck.specs.declared.item.NameRange.{NameRange}
-use Rattle.upd_deck.specs.declared.item.IdentIn.{IdentIn}
 use Rattle.upd_core.specs.Targets.{is_same}
-use Rattle.upd_text.specs.declared.fault.FaultKind.{FaultKind}
-use Rattle.upd_text.specs.Outcome.{each}
-use Rattle.upd_apply.specs.Names.{Ages, ages_by, idents_in, is_in, is_reserved, known_deck, known_ident}
+use Rattle.upd_apply.specs.Names.{Ages, ages_by, idents_in, is_in}
 use Rattle.upd_apply.specs.Yanks.{deck_targets, decks_yanked, once, pair_targets, pairs_yanked, range_targets, sets_yanked, yanked}
 use Rattle.upd_laws.proofs.SoundListLemmas.{and_right, both, or_none_left, or_none_right, is_same_number, all_append, all_both, all_filter, all_map, all_pass}
 use Rattle.upd_laws.proofs.SoundListLemmas.{zip_all}
 use Rattle.upd_laws.proofs.SoundCardLemmas.{IsEntered, all_without}
 use Rattle.upd_laws.proofs.SoundIdentLemmas.{all_from, found_from}
-use Rattle.upd_apply.proofs.BindLemmas.{bind_ok, holds_of}
 use Rattle.upd_laws.proofs.SoundOutcomeLemmas.{each_all, need_ok, refusal_ok}
 
 -- ---- order of serial

@@ -1,11 +1,7 @@
 -- The listing of `YANK$$$` and that of the yanks agree on each yank card.
-use Rattle.std.proofs.Common.{◌≡◌, ◌∷◌, ◌++◌, [], List, if◌then◌else◌, refl, ap, ◌∙◌}
-use Rattle.std.specs.Prelude.{codes, Ok}
-use Rattle.std.specs.List.{flat_map}
-use Rattle.upd_text.specs.Names.{yank_name}
-use Rattle.upd_core.specs.Library.{CardView, LibraryView}
-use Rattle.upd_core.specs.Sound.{IsSound}
-use Rattle.upd_core.specs.Status.{live_targets}
+use Rattle.upd_laws.proofs.Common.{◌≡◌, ◌∷◌, ◌++◌, [], List, if◌then◌else◌, refl, ap, ◌∙◌, Ok, flat_map, yank_name, CardView, LibraryView, IsSound}
+use Rattle.upd_laws.proofs.Common.{live_targets}
+use Rattle.std.specs.Prelude.{codes}
 use Rattle.upd_core.proofs.YankLemmas.{active_where_good}
 use Rattle.upd_compile.specs.Listings.{card_name, deck_heading, deck_line, deck_listing, line_of}
 use Rattle.upd_laws.specs.YankLines.{yank_line}

@@ -1,40 +1,27 @@
 -- The active cards of decks in memory are those of all their rows, in order.
-use Rattle.std.proofs.Common.{◌≡◌, ℕ, zero, suc, ◌+◌, ◌<◌, ◌≤◌, ◌==◌, nat_le, Bool, true}
-use Rattle.std.proofs.Common.{false, cond, List, [], ◌∷◌, ◌++◌, length, map, get_or, Some, Result, Ok, Err, add-one}
-use Rattle.std.proofs.Common.{refl, ap, sym, ◌∙◌, subst, arith}
-use Rattle.std.specs.Prelude.{◌||◌}
-use Rattle.std.specs.BTreeMap.{BTreeMap, IsOrdered, get}
-use Rattle.std.specs.Cmp.{nat_cmp_is, tied_itself}
-use Rattle.std.specs.List.{AllByRecursion, HoldsAt, filter, flat_map, list_all, list_any}
-use Rattle.std.specs.List.Sorted.{IsBinarySearchResult, IsNonDecreasingBy, IsPartitionPoint, IsSortedBy, IsStrictlySortedBy}
-use Rattle.std.specs.Map.{keys_of}
-use Rattle.std.specs.Option.{MatchOption, option_map_or}
-use Rattle.std.specs.Ordering.{is_eq, is_lt, nat_cmp, ordering_index, ordering_reverse, ordering_then}
-use Rattle.std.specs.Result.{result_ok}
-use Rattle.std.specs.declared.cmp.Ordering.TheVariants.{Less, Equal, Greater}
-use Rattle.std.specs.declared.vec.Vec.{Vec}
-use Rattle.std.proofs.lemmas.Bool.{and_parts}
-use Rattle.std.proofs.lemmas.Bool.Decides.{Decides-eqb, nat_tests}
-use Rattle.std.proofs.lemmas.Map.Keys.{sorted_head, sorted_tail}
-use Rattle.upd_text.specs.Order.{by_name}
-use Rattle.upd_text.specs.declared.card_ref.CardRef.{CardRef}
-use Rattle.std.proofs.lemmas.Cmp.{nat_cmp_total}
-use Rattle.std.proofs.lemmas.List.Elements.{recursion_from_All}
+use Rattle.upd_memory.proofs.Common.{◌≡◌, ℕ, zero, suc, ◌+◌, ◌<◌, ◌≤◌, ◌==◌, nat_le, Bool, true, false, cond, List, [], ◌∷◌, ◌++◌, length, map, get_or, Some}
+use Rattle.upd_memory.proofs.Common.{Result, Ok, Err, refl, ap, sym, ◌∙◌, subst, arith, ◌||◌, BTreeMap, IsOrdered, get, tied_itself, AllByRecursion, filter}
+use Rattle.upd_memory.proofs.Common.{flat_map, list_all, list_any, IsStrictlySortedBy, keys_of, option_map_or, is_eq, nat_cmp, ordering_reverse, result_ok}
+use Rattle.upd_memory.proofs.Common.{Less, Equal, Greater, Vec, and_parts, Decides-eqb, nat_tests, sorted_head, sorted_tail, by_name, CardRef, nat_cmp_total}
+use Rattle.upd_memory.proofs.Common.{recursion_from_All, All-found, Ident, CardRow, IsSame, Rows, StateRow, same_ref, AreInOrder, rise_from, shown_decks}
+use Rattle.upd_memory.proofs.Common.{with_rows, state_row, AreCards}
+use Rattle.std.proofs.Common.{add-one}
+use Rattle.std.specs.Cmp.{nat_cmp_is}
+use Rattle.std.specs.List.{HoldsAt}
+use Rattle.std.specs.List.Sorted.{IsBinarySearchResult, IsNonDecreasingBy, IsPartitionPoint, IsSortedBy}
+use Rattle.std.specs.Option.{MatchOption}
+use Rattle.std.specs.Ordering.{is_lt, ordering_index, ordering_then}
 use Rattle.std.proofs.lemmas.List.Sorted.{searchable_from_sorted}
-use Rattle.std.proofs.lemmas.Map.Views.{All-found}
 use Rattle.upd_core.specs.Actives.{ActiveDeckView, ActivesView, actives_of}
 use Rattle.upd_core.specs.Library.{LibraryView}
 use Rattle.upd_core.specs.Sound.{IsSound}
-use Rattle.upd_core.specs.declared.ident.Ident.{Ident}
-use Rattle.upd_records.specs.Rows.{CardRow, IsSame, Rows, Shows, ShowsStates, StateRow, same_ref}
+use Rattle.upd_records.specs.Rows.{Shows, ShowsStates}
 use Rattle.upd_row_store.proofs.ActiveLemmas.{actives_again}
 use Rattle.upd_row_store.specs.Activating.{active_card, actives_from, actives_in, behind_yanks, is_active_in, with_active}
 use Rattle.upd_row_store.specs.Assembling.{AreByAge, AreByPlace}
-use Rattle.upd_memory.specs.ActiveRows.{AreInOrder, rise_from, shown_deck, shown_decks, with_rows}
-use Rattle.upd_memory.specs.Mirrored.{state_row}
+use Rattle.upd_memory.specs.ActiveRows.{shown_deck}
 use Rattle.upd_memory.proofs.MapRowsLemmas.{own_key}
 use Rattle.upd_memory.proofs.LoadLemmas.{cards_all}
-use Rattle.upd_memory.specs.RowsByKey.{AreCards}
 use Rattle.upd_memory.proofs.NameOrderLemmas.{refs_exact, refs_total, same_by_order, turned}
 
 -- ---- statuses

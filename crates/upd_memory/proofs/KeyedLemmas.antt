@@ -1,12 +1,8 @@
 -- Rows that are kept under keys stay those of a table when both change in the same way.
-use Rattle.std.proofs.Common.{◌≡◌, Bool, true, false, not, cond, List, [], ◌∷◌, ◌++◌, map, refl}
-use Rattle.std.proofs.Common.{ap, sym, ◌∙◌, subst, append-nil, append_assoc, ℕ, ◌+◌, ◌<◌, get_or, length, take}
-use Rattle.std.specs.Prelude.{◌&&◌, ◌||◌}
-use Rattle.std.specs.List.{filter, list_any}
-use Rattle.std.proofs.lemmas.List.{map-append, take_more}
-use Rattle.std.proofs.lemmas.List.Elements.{filter-append}
-use Rattle.upd_records.proofs.CountLemmas.{same_append, same_of}
-use Rattle.upd_records.specs.Rows.{IsSame}
+use Rattle.upd_memory.proofs.Common.{◌≡◌, Bool, true, false, not, cond, List, [], ◌∷◌, ◌++◌, map, refl, ap, sym, ◌∙◌, subst, append-nil, ℕ, ◌+◌, ◌<◌, get_or}
+use Rattle.upd_memory.proofs.Common.{length, take, ◌&&◌, ◌||◌, filter, list_any, map-append, filter-append, same_append, same_of, IsSame}
+use Rattle.std.proofs.Common.{append_assoc}
+use Rattle.std.proofs.lemmas.List.{take_more}
 
 -- ---- lists
 

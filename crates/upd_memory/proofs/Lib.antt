@@ -7,5 +7,6 @@ mod MirrorLemmas
 mod ListLemmas
 mod LoadLemmas
 mod ActiveRowsLemmas
+pub mod Common
 mod MovedIdentLemmas
 mod WalkLemmas

@@ -1,15 +1,10 @@
 -- Row changes that fit are carried out on lists as they are defined.
-use Rattle.std.proofs.Common.{◌≡◌, ℕ, ◌+◌, ◌<◌, ◌==◌, nat_le, ◌&&◌, IsTrue, List, [], ◌∷◌, length, get_or, drop, map, refl, ap, sym, ◌∙◌}
-use Rattle.std.specs.Prelude.{ℤ}
-use Rattle.std.specs.List.{AllByRecursion}
-use Rattle.std.proofs.lemmas.List.{drop_more}
-use Rattle.upd_core.specs.declared.change.Change.{Change}
-use Rattle.upd_records.specs.Rows.{CardRow, Rows}
-use Rattle.upd_records.specs.Changes.{ChangeView, IdentNew, IdentPurged, CardNew, CardGone, CardsMoved, EntryNew, EntriesGone, TargetNew, TargetsGone}
-use Rattle.upd_records.specs.Changes.{StatusNow, CountNow, change_view, done, done_all, moved_row}
-use Rattle.upd_records.specs.Fits.{AllFit, CanMove, Fits}
+use Rattle.upd_memory.proofs.Common.{◌≡◌, ℕ, ◌+◌, ◌<◌, ◌==◌, nat_le, IsTrue, List, [], ◌∷◌, length, get_or, drop, map, refl, ap, sym, ◌∙◌, ℤ, AllByRecursion}
+use Rattle.upd_memory.proofs.Common.{drop_more, Change, CardRow, Rows, ChangeView, CardNew, change_view, done, done_all, moved_row, AllFit, CanMove, Fits}
+use Rattle.upd_memory.proofs.Common.{placed_row}
+use Rattle.std.proofs.Common.{◌&&◌}
+use Rattle.upd_records.specs.Changes.{IdentNew, IdentPurged, CardGone, CardsMoved, EntryNew, EntriesGone, TargetNew, TargetsGone, StatusNow, CountNow}
 use Rattle.upd_memory.specs.Lists.{carried}
-use Rattle.upd_memory.specs.RowsByKey.{placed_row}
 use Rattle.upd_memory.proofs.MirrorLemmas.{row_fits}
 
 rows_fit : (deck from : ℕ) (by : ℤ) (rows : List CardRow)

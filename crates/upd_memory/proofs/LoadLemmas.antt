@@ -1,30 +1,18 @@
 -- The rows that are copied out of maps are those of the tables.
-use Rattle.std.proofs.Common.{◌≡◌, ℕ, ◌+◌, ◌≤◌, ◌==◌, Bool, true, false, cond, List}
-use Rattle.std.proofs.Common.{[], ◌∷◌, ◌++◌, map, refl, ap, sym, ◌∙◌, subst, arith}
-use Rattle.std.proofs.Common.{append-nil}
-use Rattle.std.specs.Prelude.{◌&&◌, ◌||◌}
-use Rattle.std.specs.BTreeMap.{BTreeMap, IsOrdered}
-use Rattle.std.specs.Cmp.{tied_itself, unsigned_tied}
-use Rattle.std.specs.List.{count_by, filter, flat_map, list_any, sum_by}
-use Rattle.std.specs.List.Sorted.{IsPermutation}
+use Rattle.upd_memory.proofs.Common.{◌≡◌, ℕ, ◌+◌, ◌≤◌, ◌==◌, Bool, true, false, cond, List, [], ◌∷◌, ◌++◌, map, refl, ap, sym, ◌∙◌, subst, arith, append-nil}
+use Rattle.upd_memory.proofs.Common.{◌&&◌, ◌||◌, BTreeMap, IsOrdered, tied_itself, count_by, filter, flat_map, list_any, IsPermutation, is_eq, nat_cmp, Vec}
+use Rattle.upd_memory.proofs.Common.{nat_cmp_total, filter-append, exact_unsigned, by_name, CardRef, is_among, count_cons, same_of, CardRow, EntryRow, IsSame}
+use Rattle.upd_memory.proofs.Common.{same_ref, any_same, is_asked, is_loaded, is_of, AreCards, AreEntries, AreHomes, entries_at, is_home, filter_twice}
+use Rattle.upd_memory.proofs.Common.{same_by_key}
+use Rattle.std.specs.Cmp.{unsigned_tied}
+use Rattle.std.specs.List.{sum_by}
 use Rattle.std.proofs.lemmas.List.Sorted.{sum_by-IsPermutation}
 use Rattle.std.proofs.lemmas.List.Sums.{sum_by-cons}
-use Rattle.std.specs.Ordering.{is_eq, nat_cmp}
-use Rattle.std.specs.declared.vec.Vec.{Vec}
-use Rattle.std.proofs.lemmas.Cmp.{nat_cmp_total}
-use Rattle.std.proofs.lemmas.List.Elements.{filter-append}
 use Rattle.std.proofs.lemmas.List.Folds.{flat_map-map}
-use Rattle.std.proofs.lemmas.Map.Lookups.{exact_unsigned}
-use Rattle.upd_text.specs.Order.{by_name}
-use Rattle.upd_text.specs.declared.card_ref.CardRef.{CardRef}
-use Rattle.upd_core.specs.Edits.{is_among}
-use Rattle.upd_records.proofs.CountLemmas.{count_append, count_cons, same_of}
-use Rattle.upd_records.specs.Rows.{CardRow, EntryRow, IsSame, same_ref}
-use Rattle.upd_row_store.proofs.HolderLemmas.{any_same}
-use Rattle.upd_row_store.specs.Asked.{AreDecksOf, is_asked}
-use Rattle.upd_row_store.specs.PartRows.{AreOfDistinctCards, is_loaded, is_of}
-use Rattle.upd_memory.specs.RowsByKey.{AreCards, AreEntries, AreHomes, entries_at, is_home}
-use Rattle.upd_records.proofs.ByKeyLemmas.{count_split, filter_twice, same_by_key}
+use Rattle.upd_records.proofs.CountLemmas.{count_append}
+use Rattle.upd_row_store.specs.Asked.{AreDecksOf}
+use Rattle.upd_row_store.specs.PartRows.{AreOfDistinctCards}
+use Rattle.upd_records.proofs.ByKeyLemmas.{count_split}
 use Rattle.upd_memory.proofs.MapRowsLemmas.{all_same, flat_same, none_both, own_key}
 use Rattle.upd_memory.proofs.KeyedLemmas.{filter_alike}
 use Rattle.upd_memory.proofs.NameOrderLemmas.{one_ref, refs_exact, refs_total, same_by_order, turned}

@@ -1,23 +1,10 @@
 -- The rows of a map, one key after the other, are those of the table.
-use Rattle.std.proofs.Common.{◌≡◌, ℕ, zero, suc, ◌+◌, ◌≤◌, Bool, true, false, not, cond, List, [], ◌∷◌, ◌++◌, length, Option, None, Some}
-use Rattle.std.proofs.Common.{refl, ap, sym, ◌∙◌, subst, arith, append-nil}
-use Rattle.std.specs.Prelude.{◌&&◌}
-use Rattle.std.specs.BTreeMap.{BTreeMap, IsOrdered, get, is_at}
-use Rattle.std.specs.Cmp.{IsTotalOrder, tied_itself}
-use Rattle.std.specs.List.{AllByRecursion, count_by, filter, flat_map}
-use Rattle.std.specs.List.Sorted.{IsStrictlySortedBy}
-use Rattle.std.specs.Map.{keys_of, lookup}
-use Rattle.std.specs.Option.{option_map_or}
-use Rattle.std.specs.Ordering.{is_eq}
-use Rattle.std.specs.declared.cmp.Ordering.{Ordering}
-use Rattle.std.specs.declared.cmp.Ordering.TheVariants.{Less, Equal, Greater}
-use Rattle.std.proofs.lemmas.List.Elements.{filter-append, recursion_from_All}
-use Rattle.std.proofs.lemmas.Map.Keys.{sorted_head, sorted_tail}
-use Rattle.std.proofs.lemmas.Map.Lookups.{CmpEqualImpliesEq}
-use Rattle.std.proofs.lemmas.Map.Views.{All-found}
-use Rattle.upd_records.proofs.ByKeyLemmas.{filter_twice, same_by_key}
-use Rattle.upd_records.proofs.CountLemmas.{count_cons, count_filter, same_of}
-use Rattle.upd_records.specs.Rows.{IsSame}
+use Rattle.upd_memory.proofs.Common.{◌≡◌, ℕ, zero, suc, ◌+◌, ◌≤◌, Bool, true, false, not, cond, List, [], ◌∷◌, ◌++◌, length, Option, None, Some, refl, ap}
+use Rattle.upd_memory.proofs.Common.{sym, ◌∙◌, subst, arith, append-nil, ◌&&◌, BTreeMap, IsOrdered, get, is_at, IsTotalOrder, tied_itself, AllByRecursion}
+use Rattle.upd_memory.proofs.Common.{count_by, filter, flat_map, IsStrictlySortedBy, keys_of, lookup, option_map_or, is_eq, Ordering, Less, Equal, Greater}
+use Rattle.upd_memory.proofs.Common.{filter-append, recursion_from_All, sorted_head, sorted_tail, CmpEqualImpliesEq, All-found, filter_twice, same_by_key}
+use Rattle.upd_memory.proofs.Common.{count_cons, same_of, IsSame}
+use Rattle.upd_records.proofs.CountLemmas.{count_filter}
 use Rattle.upd_memory.proofs.KeyedLemmas.{filter_alike, not_true}
 
 -- a test that none fails keeps all

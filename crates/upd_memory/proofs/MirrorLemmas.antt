@@ -1,39 +1,22 @@
 -- The tables of a mirror after one change.
-use Rattle.std.proofs.Common.{◌≡◌, ℕ, ◌+◌, ◌-◌, ◌==◌, nat_le, Bool, true, false, not, cond}
-use Rattle.std.proofs.Common.{if◌then◌else◌, IsTrue, List, [], ◌∷◌, ◌++◌, length, map, get_or, drop, ◌<◌}
-use Rattle.std.proofs.Common.{None, Some, Option, Result, Ok, Err, OnOk, IfOk, refl, ap, sym, ◌∙◌, subst, arith, append-nil}
-use Rattle.std.specs.Prelude.{◌&&◌, ◌||◌, ℤ, pos, negsuc, ◌^◌, ◌≤◌}
-use Rattle.std.specs.BTreeMap.{BTreeMap, get, is_at}
-use Rattle.std.specs.List.{filter, list_any, AllByRecursion}
-use Rattle.std.specs.Option.{option_map_or}
-use Rattle.std.specs.Map.{lookup}
-use Rattle.std.specs.Ordering.{is_eq, nat_cmp}
-use Rattle.std.specs.Result.{result_ok}
-use Rattle.std.specs.declared.vec.Vec.{Vec}
+use Rattle.upd_memory.proofs.Common.{◌≡◌, ℕ, ◌+◌, ◌==◌, nat_le, Bool, true, false, not, cond, if◌then◌else◌, IsTrue, List, [], ◌∷◌, ◌++◌, length, map, get_or}
+use Rattle.upd_memory.proofs.Common.{drop, ◌<◌, None, Some, Option, Result, Ok, Err, refl, ap, sym, ◌∙◌, subst, arith, append-nil, ◌&&◌, ◌||◌, ℤ, BTreeMap}
+use Rattle.upd_memory.proofs.Common.{get, is_at, filter, list_any, AllByRecursion, option_map_or, lookup, is_eq, nat_cmp, result_ok, Vec, and_parts}
+use Rattle.upd_memory.proofs.Common.{Decides-eqb, drop_more, map-append, by_name, CardRef, is_same, Target, same_append, same_filter, same_map, same_of}
+use Rattle.upd_memory.proofs.Common.{same_trans, Change, change_view, done, done_all, moved_row, AllFit, CanMove, Fits, CardRow, CountRow, EntryRow, IsSame}
+use Rattle.upd_memory.proofs.Common.{Rows, same_ref, state_rows, same_length, any_same, count_pair, Agrees, AreCards, AreEntries, AreHomes, AreStatuses}
+use Rattle.upd_memory.proofs.Common.{cards_at, entries_at, is_home, placed_row, filter_twice}
+use Rattle.std.proofs.Common.{◌-◌, OnOk, IfOk}
+use Rattle.std.specs.Prelude.{pos, negsuc, ◌^◌, ◌≤◌}
 use Rattle.std.proofs.Math.Nat.{min-eq_left}
-use Rattle.std.proofs.lemmas.Bool.{and_parts}
-use Rattle.std.proofs.lemmas.Bool.Decides.{Decides-eqb}
-use Rattle.std.proofs.lemmas.List.{drop_more, map-append}
 use Rattle.std.proofs.lemmas.Option.{same_Some}
-use Rattle.upd_text.specs.Order.{by_name}
-use Rattle.upd_text.specs.declared.card_ref.CardRef.{CardRef}
-use Rattle.upd_core.specs.Targets.{is_same}
-use Rattle.upd_core.specs.declared.target.Target.{Target}
-use Rattle.upd_records.proofs.CountLemmas.{same_append, same_filter, same_map, same_of, same_trans}
 use Rattle.upd_records.proofs.EffectLemmas.{any_append}
-use Rattle.upd_core.specs.declared.change.Change.{Change}
-use Rattle.upd_records.specs.Changes.{change_view, done, done_all, moved_row, shifted}
-use Rattle.upd_records.specs.Fits.{AllFit, CanMove, Fits}
-use Rattle.upd_records.specs.Rows.{CardRow, CountRow, EntryRow, IsSame, Rows, count_rows, same_ref, state_rows}
-use Rattle.upd_row_store.proofs.PartLemmas.{same_length}
+use Rattle.upd_records.specs.Changes.{shifted}
+use Rattle.upd_records.specs.Rows.{count_rows}
 use Rattle.upd_row_store.proofs.AskedLemmas.{filter_made}
-use Rattle.upd_row_store.proofs.HolderLemmas.{any_same}
-use Rattle.upd_row_store.specs.Tables.{count_pair}
-use Rattle.upd_memory.specs.Mirrored.{Agrees}
 use Rattle.upd_memory.specs.declared.mirror.Mirror.{Mirror}
-use Rattle.upd_memory.specs.RowsByKey.{AreCards, AreEntries, AreHomes, AreStatuses, cards_at, entries_at, is_home, moved_place, placed_row}
+use Rattle.upd_memory.specs.RowsByKey.{moved_place}
 use Rattle.upd_memory.proofs.KeyedLemmas.{any_gone, any_mapped, any_stays, apart_stay, filter_mapped, one_more, some_gone}
-use Rattle.upd_records.proofs.ByKeyLemmas.{filter_twice}
 use Rattle.upd_memory.proofs.NameOrderLemmas.{alike, one_by_order, turned}
 
 -- what a call ensures where it succeeds, of a success that is read as an option

@@ -1,29 +1,14 @@
 -- The cards that changes move are listed, by the places from which on decks move.
-use Rattle.std.proofs.Common.{◌≡◌, ℕ, ◌<◌, ◌==◌, nat_le, Bool, true, false, cond, List, [], ◌∷◌, Option, None, Some}
-use Rattle.std.proofs.Common.{refl, ap, ap₂, sym, ◌∙◌, arith}
-use Rattle.std.specs.Prelude.{◌&&◌, ◌||◌}
-use Rattle.std.specs.BTreeMap.{BTreeMap, get, is_at}
-use Rattle.std.specs.Cmp.{tied_itself}
+use Rattle.upd_memory.proofs.Common.{◌≡◌, ℕ, ◌<◌, ◌==◌, nat_le, Bool, true, false, cond, List, [], ◌∷◌, Option, None, Some, refl, ap, sym, ◌∙◌, arith, ◌&&◌}
+use Rattle.upd_memory.proofs.Common.{◌||◌, BTreeMap, get, is_at, tied_itself, AllByRecursion, filter, list_any, lookup, option_map_or, is_eq, nat_cmp}
+use Rattle.upd_memory.proofs.Common.{Ordering, Less, Equal, Greater, Vec, nat_tests, nat_list_cmp_total, CmpEqualImpliesEq, exact_unsigned, CardRef, CardNew}
+use Rattle.upd_memory.proofs.Common.{ChangeView, CardRow, Rows, is_listed, moves_at, any_same, adds_from, is_from, is_reached, AreCards, cards_at}
+use Rattle.std.proofs.Common.{ap₂}
 use Rattle.std.specs.Cmp.Lexicographic.{slice_cmp}
-use Rattle.std.specs.List.{AllByRecursion, filter, list_any}
-use Rattle.std.specs.Map.{lookup}
-use Rattle.std.specs.Option.{option_map_or}
-use Rattle.std.specs.Ordering.{is_eq, nat_cmp}
-use Rattle.std.specs.declared.cmp.Ordering.{Ordering}
-use Rattle.std.specs.declared.cmp.Ordering.TheVariants.{Less, Equal, Greater}
-use Rattle.std.specs.declared.vec.Vec.{Vec}
-use Rattle.std.proofs.lemmas.Bool.Decides.{nat_tests}
-use Rattle.std.proofs.lemmas.Cmp.{nat_list_cmp_total}
-use Rattle.std.proofs.lemmas.Map.Lookups.{CmpEqualImpliesEq, exact_bytes, exact_unsigned}
+use Rattle.std.proofs.lemmas.Map.Lookups.{exact_bytes}
 use Rattle.std.proofs.lemmas.Map.Text.{is_eq-slice_cmp}
-use Rattle.upd_text.specs.declared.card_ref.CardRef.{CardRef}
-use Rattle.upd_records.specs.Changes.{CardNew, ChangeView}
-use Rattle.upd_records.specs.Rows.{CardRow, Rows}
-use Rattle.upd_row_store.specs.Movable.{AllMoveListed, is_listed, moves_at}
-use Rattle.upd_row_store.proofs.HolderLemmas.{any_same}
+use Rattle.upd_row_store.specs.Movable.{AllMoveListed}
 use Rattle.upd_row_store.proofs.MovableLemmas.{AddsListed, IsKnown, all_listed}
-use Rattle.upd_memory.specs.MovedIdents.{adds_from, is_from, is_reached}
-use Rattle.upd_memory.specs.RowsByKey.{AreCards, cards_at}
 
 -- ---- tests
 
@@ -149,7 +134,8 @@ module _ {Z : Type 0} (decks : BTreeMap ℕ (Vec CardRow Z)) (rows : Rows) (are 
                   || list_any (λ s. (s.deck == r.deck) && (nat_le m s.pos && is_from s.card r.card)) xs) ≡ true
                   → (list_any (λ s. (s.deck == r.deck) && (nat_le m s.pos && is_from s.card r.card)) xs ≡ true
                   → list_any (λ s. nat_le m s.pos && is_from s.card r.card) (filter (λ s. s.deck == r.deck) xs) ≡ true)
-                  → list_any (λ s. nat_le m s.pos && is_from s.card r.card) (cond b (x ∷ filter (λ s. s.deck == r.deck) xs) (filter (λ s. s.deck == r.deck) xs)) ≡ true
+                  → list_any (λ s. nat_le m s.pos && is_from s.card r.card)
+                  (cond b (x ∷ filter (λ s. s.deck == r.deck) xs) (filter (λ s. s.deck == r.deck) xs)) ≡ true
               step false is rest = rest is
               step true is rest = either (nat_le m x.pos && is_from x.card r.card) is
                 where

@@ -1,15 +1,9 @@
 -- References are the same where the order of the maps' keys says so.
-use Rattle.std.proofs.Common.{◌≡◌, true, refl, ap, sym, ◌∙◌}
-use Rattle.std.proofs.lemmas.Cmp.{nat_cmp_total, nat_list_cmp_total, on_total, then_total}
-use Rattle.std.proofs.lemmas.Map.Lookups.{CmpEqualImpliesEq}
-use Rattle.std.specs.Cmp.{IsTotalOrder, eq_by_cmp_equiv}
-use Rattle.std.specs.Ordering.{is_eq}
-use Rattle.std.specs.declared.cmp.Ordering.{Ordering}
-use Rattle.std.specs.declared.cmp.Ordering.TheVariants.{Less, Equal, Greater}
-use Rattle.upd_text.proofs.OrderLemmas.{is_same-is_eq, by_name-exact}
-use Rattle.upd_text.specs.Order.{by_name}
-use Rattle.upd_text.specs.declared.card_ref.CardRef.{CardRef}
-use Rattle.upd_records.specs.Rows.{same_ref}
+use Rattle.upd_memory.proofs.Common.{◌≡◌, true, refl, ap, sym, ◌∙◌, nat_cmp_total, nat_list_cmp_total, CmpEqualImpliesEq, IsTotalOrder, is_eq, Ordering, Less}
+use Rattle.upd_memory.proofs.Common.{Equal, Greater, is_same-is_eq, by_name, CardRef, same_ref}
+use Rattle.std.proofs.lemmas.Cmp.{on_total, then_total}
+use Rattle.std.specs.Cmp.{eq_by_cmp_equiv}
+use Rattle.upd_text.proofs.OrderLemmas.{by_name-exact}
 
 pub same_by_order : (a b : CardRef) → same_ref a b ≡ is_eq (by_name a b)
 same_by_order a b = is_same-is_eq a b

@@ -1,23 +1,8 @@
 -- Statuses in memory, by card, are those of the table: what is read of them, and what changes leave.
-use Rattle.std.proofs.Common.{◌≡◌, Bool, true, false}
-use Rattle.std.proofs.Common.{cond, not, List, [], ◌∷◌, ◌++◌, map}
-use Rattle.std.proofs.Common.{Option, None, Some, refl, ap, sym, ◌∙◌, subst}
-use Rattle.std.specs.BTreeMap.{BTreeMap, IsOrdered, get, is_at}
-use Rattle.std.specs.Cmp.{tied_itself}
-use Rattle.std.specs.List.{AllByRecursion, filter, flat_map}
-use Rattle.std.specs.List.Sorted.{IsStrictlySortedBy}
-use Rattle.std.specs.Map.{keys_of, lookup}
-use Rattle.std.specs.Option.{option_map_or}
-use Rattle.std.specs.Ordering.{is_eq}
-use Rattle.upd_text.specs.Order.{by_name}
-use Rattle.upd_text.specs.declared.card_ref.CardRef.{CardRef}
-use Rattle.upd_records.proofs.CountLemmas.{same_map, same_of}
-use Rattle.upd_records.specs.Rows.{IsSame, StateRow, same_ref, state_rows}
-use Rattle.upd_row_store.specs.Asked.{is_asked}
-use Rattle.upd_row_store.specs.Tables.{state_pair}
-use Rattle.upd_memory.specs.RowsByKey.{AreStatuses}
-use Rattle.upd_memory.specs.Mirrored.{state_row}
-use Rattle.upd_records.proofs.ByKeyLemmas.{filter_twice, same_by_key}
+use Rattle.upd_memory.proofs.Common.{◌≡◌, Bool, true, false, cond, not, List, [], ◌∷◌, ◌++◌, map, Option, None, Some, refl, ap, sym, ◌∙◌, subst, BTreeMap}
+use Rattle.upd_memory.proofs.Common.{IsOrdered, get, is_at, tied_itself, AllByRecursion, filter, flat_map, IsStrictlySortedBy, keys_of, lookup, option_map_or}
+use Rattle.upd_memory.proofs.Common.{is_eq, by_name, CardRef, same_map, same_of, IsSame, StateRow, same_ref, state_rows, is_asked, state_pair, AreStatuses}
+use Rattle.upd_memory.proofs.Common.{state_row, filter_twice, same_by_key}
 use Rattle.upd_memory.proofs.MapRowsLemmas.{all_same, flat_at}
 use Rattle.upd_memory.proofs.KeyedLemmas.{filter_alike, one_more, some_gone}
 use Rattle.upd_memory.proofs.NameOrderLemmas.{alike, one_by_order, one_ref, refs_exact, refs_total, same_by_order, turned}

@@ -1,21 +1,12 @@
 -- What is left of a map by card, and the first value there.
-use Rattle.std.proofs.Common.{◌≡◌, Bool, true, false, cond, List, [], ◌∷◌}
-use Rattle.std.proofs.Common.{Option, None, Some, refl, ap, sym, ◌∙◌}
-use Rattle.std.specs.Prelude.{is_some, drop}
-use Rattle.std.specs.BTreeMap.{BTreeMap, get}
+use Rattle.upd_memory.proofs.Common.{◌≡◌, Bool, true, false, cond, List, [], ◌∷◌, Option, None, Some, refl, ap, sym, ◌∙◌, is_some, BTreeMap, get, tied_itself}
+use Rattle.upd_memory.proofs.Common.{AllByRecursion, is_eq, ordering_reverse, Ordering, Less, Equal, Greater, Included, Unbounded, recursion_from_All}
+use Rattle.upd_memory.proofs.Common.{by_name, CardRef, same_ref, AreFound}
+use Rattle.std.specs.Prelude.{drop}
 use Rattle.std.specs.BTreeMap.Range.{IsEntryInRange, IsInRange, IsRangeOf}
-use Rattle.std.specs.Cmp.{tied_itself}
-use Rattle.std.specs.List.{AllByRecursion}
-use Rattle.std.specs.Ordering.{is_eq, is_gt, ordering_reverse}
-use Rattle.std.specs.declared.cmp.Ordering.{Ordering}
-use Rattle.std.specs.declared.cmp.Ordering.TheVariants.{Less, Equal, Greater}
+use Rattle.std.specs.Ordering.{is_gt}
 use Rattle.std.specs.declared.ops.Bound.{Bound}
-use Rattle.std.specs.declared.ops.Bound.TheVariants.{Included, Unbounded}
-use Rattle.std.proofs.lemmas.List.Elements.{recursion_from_All}
-use Rattle.upd_text.specs.Order.{by_name}
-use Rattle.upd_text.specs.declared.card_ref.CardRef.{CardRef}
-use Rattle.upd_records.specs.Rows.{same_ref}
-use Rattle.upd_memory.specs.Walk.{AreFound, first_at}
+use Rattle.upd_memory.specs.Walk.{first_at}
 use Rattle.upd_memory.proofs.NameOrderLemmas.{one_ref, refs_total, same_by_order}
 
 pub found_later : {V : Type 0} (values : BTreeMap CardRef V) (es : List (CardRef × V)) → AreFound values es → AreFound values (drop 1 es)

@@ -1,5 +1,8 @@
 -- What the texts that complete a file make of its tables.
-use Rattle.std.proofs.Common.{◌≡◌, ℕ, ◌+◌, pos, true, if◌then◌else◌, List, [], ◌∷◌, ◌++◌, drop, codes, Ok, refl, ap, subst, ◌∙◌}
+use Rattle.upd_migrate.proofs.Common.{◌≡◌, ℕ, ◌+◌, true, List, [], ◌∷◌, ◌++◌, Ok, refl, ap, subst, ◌∙◌, State, Rows, HoldsAllRows, stored}
+use Rattle.sqlite_tied.specs.Compute.{everything}
+use Rattle.upd_migrate.proofs.Common.{schema_up_to, library_schema, HoldsTables, Version, HasTables, number_of}
+use Rattle.std.proofs.Common.{pos, if◌then◌else◌, drop, codes}
 use Rattle.std.specs.List.{list_all}
 use Rattle.sqlite_value.specs.declared.value.Value.TheVariants.{Null, Int, Text}
 use Rattle.sqlite_value.specs.declared.keys.Collation.TheVariants.{Binary}
@@ -9,24 +12,18 @@ use Rattle.sqlite_sql.specs.declared.ops.CompareOp.TheVariants.{Eq}
 use Rattle.sqlite_sql.specs.declared.ops.BinaryOp.TheVariants.{Compare}
 use Rattle.sqlite_schema.specs.declared.command.Command.TheVariants.{Update}
 use Rattle.sqlite_rules.specs.Cast.{cast_all}
-use Rattle.sqlite_tied.specs.Compute.{everything}
 use Rattle.sqlite.specs.Given.{IsPlain}
 use Rattle.sqlite.specs.Listing.{understood}
-use Rattle.sqlite.specs.State.{State, Executes}
+use Rattle.sqlite.specs.State.{Executes}
 use Rattle.sqlite.proofs.Callers.{command_of, runs_as}
-use Rattle.upd_records.specs.Rows.{Rows}
 use Rattle.upd_sqlite.specs.Keyed.{plain_query}
-use Rattle.upd_sqlite.specs.Stored.{HoldsAllRows}
 use Rattle.upd_sqlite.proofs.Shapes.{creates, cast_int}
 use Rattle.upd_sqlite.proofs.Tests.{eq_text, one_test}
-use Rattle.upd_sql.specs.Encoded.{stored, version_row}
-use Rattle.upd_sql.specs.Making.{schema_up_to, MakesNext}
-use Rattle.upd_sql.specs.Schema.{library_schema, meta_columns}
-use Rattle.upd_sql.specs.LibraryTables.{HoldsTables}
+use Rattle.upd_sql.specs.Encoded.{version_row}
+use Rattle.upd_sql.specs.Making.{MakesNext}
+use Rattle.upd_sql.specs.Schema.{meta_columns}
 use Rattle.upd_sql.proofs.Typed.{changes}
 use Rattle.upd_migrate.specs.declared.completing.TheConstants.{SET_VERSION}
-use Rattle.upd_migrate.specs.declared.older_version.Version.{Version}
-use Rattle.upd_migrate.specs.Older.{HasTables, number_of}
 
 -- the next table is made, and the others have their rows
 pub next_made : (n : ℕ) (sql : List ℕ) → MakesNext n sql → (all : List (List Row)) (old new : State) (count : ℕ) → Executes sql [] old new (Ok count)

@@ -1,27 +1,13 @@
 -- The steps that fill a file's tables, one after another.
-use Rattle.std.proofs.Common.{◌≡◌, List, Result, Ok, Err, sym, subst, true}
-use Rattle.std.specs.List.{AllByRecursion}
+use Rattle.upd_migrate.proofs.Common.{◌≡◌, List, Result, Ok, Err, sym, subst, true, AllByRecursion, State, LibraryView, IsSound, ChangeView, done_all, AllFit}
+use Rattle.upd_migrate.proofs.Common.{Rows, ShowsStates, row_changes_state, AreRowsOf, LibraryRows, HoldsAllRows, Makes, clean_before, Looks, Transforms}
+use Rattle.upd_migrate.proofs.Common.{HoldsTables, transforms_then, First, AreLibraryRows, IsMigrated, HoldsAfter, completed, schema_of, stored_in}
 use Rattle.sqlite.specs.declared.error.Error.{Error}
-use Rattle.sqlite.specs.State.{State}
-use Rattle.upd_core.specs.Library.{LibraryView}
-use Rattle.upd_core.specs.Sound.{IsSound, IsWhole}
-use Rattle.upd_records.specs.Changes.{ChangeView, done_all}
-use Rattle.upd_records.specs.Fits.{AllFit}
-use Rattle.upd_records.specs.Rows.{Rows, Shows, ShowsStates}
-use Rattle.upd_diff.specs.States.{row_changes_state}
+use Rattle.upd_core.specs.Sound.{IsWhole}
+use Rattle.upd_records.specs.Rows.{Shows}
 use Rattle.upd_diff.proofs.FitLemmas.{states_fit}
-use Rattle.upd_row_store.specs.Assembling.{AreRowsOf}
-use Rattle.upd_records.specs.declared.rows.LibraryRows.{LibraryRows}
-use Rattle.upd_sqlite.specs.Stored.{HoldsAllRows}
-use Rattle.upd_sqlite.specs.Steps.{Makes}
-use Rattle.upd_sqlite.proofs.Chains.{clean_before, steps_then}
-use Rattle.upd_sql.specs.Commits.{Looks}
-use Rattle.upd_sql.specs.Making.{Transforms}
-use Rattle.upd_sql.specs.LibraryTables.{HoldsTables}
-use Rattle.upd_sql.proofs.MakingLemmas.{transforms_then}
-use Rattle.upd_migrate.specs.declared.older_version.Version.TheVariants.{First}
-use Rattle.upd_migrate.specs.Migrated.{AreLibraryRows, IsFilled, IsMigrated, HoldsAfter, completed}
-use Rattle.upd_migrate.specs.Older.{schema_of, stored_in}
+use Rattle.upd_sqlite.proofs.Chains.{steps_then}
+use Rattle.upd_migrate.specs.Migrated.{IsFilled}
 use Rattle.upd_migrate.proofs.RowChanges.{all_else_stays}
 
 -- changes are made from what is read, and carried out

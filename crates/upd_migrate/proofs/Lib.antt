@@ -1,3 +1,4 @@
+pub mod Common
 pub mod Versions
 pub mod Completed
 pub mod Loaded

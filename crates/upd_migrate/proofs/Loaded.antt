@@ -1,20 +1,7 @@
 -- What is read in a transaction that completes a file first.
-use Rattle.std.proofs.Common.{◌≡◌, Ok, refl, sym, subst, IsTrue, true}
-use Rattle.sqlite.specs.State.{State, HasCleanDisk}
-use Rattle.upd_records.specs.Rows.{Rows}
-use Rattle.upd_sqlite.specs.Rising.{TablesRise}
-use Rattle.upd_row_store.specs.Assembling.{AreRowsOf}
-use Rattle.upd_records.specs.declared.rows.LibraryRows.{LibraryRows}
-use Rattle.upd_sqlite.specs.Stored.{HoldsAllRows}
-use Rattle.upd_sqlite.proofs.Chains.{clean_before}
+use Rattle.upd_migrate.proofs.Common.{◌≡◌, Ok, refl, sym, subst, IsTrue, true, State, HasCleanDisk, Rows, TablesRise, AreRowsOf, LibraryRows, HoldsAllRows}
+use Rattle.upd_migrate.proofs.Common.{clean_before, Looks, Transforms, HoldsTables, Version, First, Second, Third, completed, ShowsAs, schema_of, stored_in}
 use Rattle.upd_sqlite.proofs.Frames.{held}
-use Rattle.upd_sql.specs.Commits.{Looks}
-use Rattle.upd_sql.specs.Making.{Transforms}
-use Rattle.upd_sql.specs.LibraryTables.{HoldsTables}
-use Rattle.upd_migrate.specs.declared.older_version.Version.{Version}
-use Rattle.upd_migrate.specs.declared.older_version.Version.TheVariants.{First, Second, Third}
-use Rattle.upd_migrate.specs.Migrated.{completed}
-use Rattle.upd_migrate.specs.Older.{ShowsAs, schema_of, stored_in}
 
 -- the rows of a library are those of the tables that a version has
 as_they_were : (version : Version) (it : Rows) (rows : LibraryRows) → AreRowsOf (completed version it) rows → AreRowsOf it rows

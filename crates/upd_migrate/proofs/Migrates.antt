@@ -1,24 +1,14 @@
 -- From the steps of a migration and its commit to what the whole of it does.
-use Rattle.std.proofs.Common.{◌≡◌, ℕ, Result, Ok, Err, OnOk, refl, sym, ap, subst, ◌∙◌, IsTrue, true, false}
-use Rattle.sqlite.specs.Effect.{Database}
-use Rattle.sqlite.specs.State.{State, HasCleanDisk, Shows, Survives}
+use Rattle.upd_migrate.proofs.Common.{◌≡◌, ℕ, Result, Ok, Err, OnOk, refl, sym, ap, subst, ◌∙◌, IsTrue, true, false, Database, State, HasCleanDisk, Survives}
+use Rattle.upd_migrate.proofs.Common.{LibraryView, Rows, TablesRise, HoldsAllRows, clean_before, stored, Transforms, library_schema, HasVersion, Version}
+use Rattle.upd_migrate.proofs.Common.{AreLibraryRows, IsMigrated, MayMigrateFrom, MigratesFrom, HoldsAfter, ShowsAs, number_of, schema_of, stored_in}
+use Rattle.sqlite.specs.State.{Shows}
 use Rattle.sqlite.proofs.StateLemmas.{survives_then}
-use Rattle.upd_core.specs.Library.{LibraryView}
-use Rattle.upd_records.specs.Rows.{Rows}
-use Rattle.upd_sqlite.specs.Rising.{TablesRise}
-use Rattle.upd_sqlite.specs.Stored.{HoldsAllRows}
 use Rattle.upd_sqlite.specs.Steps.{Steps}
-use Rattle.upd_sqlite.proofs.Chains.{clean_before}
 use Rattle.upd_sqlite.proofs.Frames.{showing}
 use Rattle.upd_sql.specs.Commits.{ShowsIn, WasOpen}
-use Rattle.upd_sql.specs.Encoded.{stored}
-use Rattle.upd_sql.specs.Making.{Transforms}
-use Rattle.upd_sql.specs.Schema.{library_schema}
 use Rattle.upd_sql.specs.LibraryTables.{ShowsTables}
-use Rattle.upd_store.specs.Version.{HasVersion}
-use Rattle.upd_migrate.specs.declared.older_version.Version.{Version}
-use Rattle.upd_migrate.specs.Migrated.{AreLibraryRows, HasMigrated, IsMigrated, MayMigrate, MayMigrateFrom, Migrates, MigratesFrom, HoldsAfter}
-use Rattle.upd_migrate.specs.Older.{ShowsAs, number_of, schema_of, stored_in}
+use Rattle.upd_migrate.specs.Migrated.{HasMigrated, MayMigrate, Migrates}
 use Rattle.upd_migrate.proofs.Loaded.{begun_holds}
 use Rattle.upd_migrate.proofs.Versions.{one_version}
 

@@ -1,5 +1,6 @@
 -- A fault that `?` passes on.
-use Rattle.std.proofs.Common.{◌≡◌, Result, Ok, Err, IfErr, IsErrAnd, sym, subst}
+use Rattle.upd_migrate.proofs.Common.{◌≡◌, Result, Ok, Err, sym, subst}
+use Rattle.std.proofs.Common.{IfErr, IsErrAnd}
 use Rattle.upd_text.specs.declared.fault.Fault.{Fault}
 
 -- what holds of the fault holds where it is passed on

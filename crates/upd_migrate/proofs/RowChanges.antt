@@ -1,21 +1,18 @@
 -- The statuses and counts of a library, as if one run had added everything.
-use Rattle.std.proofs.Common.{◌≡◌, ◌<◌, ◌^◌, List, [], ◌∷◌, length, true, false, inr, refl, ap, ◌∙◌}
-use Rattle.std.specs.List.{filter, AllByRecursion}
+use Rattle.upd_migrate.proofs.Common.{◌≡◌, ◌<◌, ◌^◌, List, [], ◌∷◌, length, true, false, refl, ap, ◌∙◌, AllByRecursion, LibraryView, empty, IsSound}
+use Rattle.upd_migrate.proofs.Common.{ChangeView, done_all, Rows, ShowsStates, TakeGone, row_changes_state, touched, empty_sound, IsRight}
+use Rattle.std.proofs.Common.{inr}
+use Rattle.std.specs.List.{filter}
 use Rattle.upd_text.specs.declared.card_ref.CardRef.{CardRef}
 use Rattle.upd_core.specs.Counted.{CountedCardView}
-use Rattle.upd_core.specs.Library.{LibraryView, empty}
-use Rattle.upd_core.specs.Sound.{IsSound}
 use Rattle.upd_core.specs.Targets.{is_same}
-use Rattle.upd_records.specs.Changes.{ChangeView, IdentNew, IdentPurged, CardNew, CardGone, CardsMoved, EntryNew, EntriesGone, TargetNew, TargetsGone}
-use Rattle.upd_records.specs.Changes.{StatusNow, CountNow, done, done_all}
-use Rattle.upd_records.specs.Rows.{Rows, ShowsStates, same_ref}
-use Rattle.upd_diff.specs.States.{TakeGone, row_changes_state}
-use Rattle.upd_diff.specs.Touched.{touched}
-use Rattle.upd_laws.proofs.SoundRunLemmas.{empty_sound}
+use Rattle.upd_records.specs.Changes.{IdentNew, IdentPurged, CardNew, CardGone, CardsMoved, EntryNew, EntriesGone, TargetNew, TargetsGone}
+use Rattle.upd_records.specs.Changes.{StatusNow, CountNow, done}
+use Rattle.upd_records.specs.Rows.{same_ref}
 use Rattle.upd_yank.proofs.EnoughLemmas.{part_of_none}
 use Rattle.upd_yank.specs.Affected.{affected}
 use Rattle.upd_yank.specs.Enough.{IsEnough}
-use Rattle.upd_yank.specs.Right.{CacheView, IsRight, IsRunBetween}
+use Rattle.upd_yank.specs.Right.{CacheView, IsRunBetween}
 
 pub between : (l : LibraryView) (cache : CacheView) (run : List CardRef) → IsSound l → length l.yanks < 2 ^ 32 → IsRight empty cache → run ≡ touched empty l
     → IsRunBetween empty l cache run

@@ -1,11 +1,8 @@
 -- The schema of each version, part by part.
-use Rattle.std.proofs.Common.{◌≡◌, length, refl, sym, ap, ◌∙◌, arith}
-use Rattle.sqlite_schema.specs.declared.schema.Schema.{Schema}
+use Rattle.upd_migrate.proofs.Common.{◌≡◌, length, refl, sym, ap, ◌∙◌, arith, first_tables, Version, First, Second, Third, schema_of}
 use Rattle.sqlite_tied.specs.Compute.{everything}
-use Rattle.upd_sql.specs.Wanted.{first_tables}
-use Rattle.upd_migrate.specs.declared.older_version.Version.{Version}
-use Rattle.upd_migrate.specs.declared.older_version.Version.TheVariants.{First, Second, Third}
-use Rattle.upd_migrate.specs.Older.{schema_of, tables_of}
+use Rattle.sqlite_schema.specs.declared.schema.Schema.{Schema}
+use Rattle.upd_migrate.specs.Older.{tables_of}
 
 pub first_is : (version : Version) → first_tables (tables_of version) ≡ schema_of version
 unfolding everything

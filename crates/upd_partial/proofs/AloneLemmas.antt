@@ -1,24 +1,11 @@
 -- The status update of a part, taken as a library of its own.
-use Rattle.std.proofs.Common.{◌≡◌, ℕ, Bool, false, List, ◌++◌, Some, Ok, inr, refl, sym, ap, ◌∙◌}
-use Rattle.std.proofs.lemmas.List.Elements.{filter-append}
-use Rattle.std.specs.Prelude.{◌==◌}
-use Rattle.std.specs.List.{filter, AllByRecursion}
-use Rattle.upd_text.specs.declared.card_ref.CardRef.{CardRef}
-use Rattle.upd_core.specs.Counted.{CountedCardView, others_of, yanks_of}
-use Rattle.upd_core.specs.declared.library.Place.{Place}
-use Rattle.upd_core.specs.Library.{LibraryView, place_of}
-use Rattle.upd_core.specs.Parts.{part}
-use Rattle.upd_core.specs.Sound.{IsSound}
-use Rattle.upd_core.specs.TargetCounts.{live_count}
-use Rattle.upd_diff.specs.Touched.{touched}
-use Rattle.upd_deck.specs.Items.{LineView}
-use Rattle.upd_apply.specs.Applying.{Reached, applied}
-use Rattle.upd_laws.proofs.SoundListLemmas.{all_both, all_weaker}
-use Rattle.upd_yank.specs.Affected.{affected, is_touched}
-use Rattle.upd_yank.specs.Cascade.{is_due}
-use Rattle.upd_yank.specs.Enough.{AreIdle, IsEnough}
+use Rattle.upd_partial.proofs.Common.{◌≡◌, ℕ, Bool, false, List, ◌++◌, Some, Ok, inr, refl, sym, ap, ◌∙◌, filter-append, ◌==◌, filter, AllByRecursion}
+use Rattle.upd_partial.proofs.Common.{CardRef, CountedCardView, Place, LibraryView, place_of, part, IsSound, live_count, touched, LineView, Reached, applied}
+use Rattle.upd_partial.proofs.Common.{all_both, all_weaker, affected, is_touched, is_due, AreIdle, DoesWithout, NamesNone, cards_of_item, left_out}
+use Rattle.upd_partial.proofs.Common.{reached_in_part}
+use Rattle.upd_core.specs.Counted.{others_of, yanks_of}
+use Rattle.upd_yank.specs.Enough.{IsEnough}
 use Rattle.upd_yank.proofs.EnoughLemmas.{part_of_none, sees}
-use Rattle.upd_partial.specs.Needless.{DoesWithout, NamesNone, cards_of_item, left_out, reached_in_part}
 use Rattle.upd_partial.proofs.AppliedLemmas.{applied_same}
 use Rattle.upd_partial.proofs.IdleLemmas.{idle_in}
 use Rattle.upd_partial.proofs.NeedLemmas.{none_in}
@@ -39,7 +26,8 @@ named_in_part out test lines l yanks sound names none =
     (λ line both. all_weaker (λ card. StandsOut test l card × IsNotIn (left_out out l) l card) (StandsOut test (part out l)) (cards_of_item line.item)
     (λ card here p at. here.0 p (sym (place_same out l card yanks here.1) ∙ at))
     (all_both (StandsOut test l) (IsNotIn (left_out out l) l) (cards_of_item line.item) both.0 both.1))
-    (all_both (λ line. AllByRecursion (StandsOut test l) (cards_of_item line.item)) (λ line. AllByRecursion (IsNotIn (left_out out l) l) (cards_of_item line.item))
+    (all_both (λ line. AllByRecursion (StandsOut test l) (cards_of_item line.item))
+    (λ line. AllByRecursion (IsNotIn (left_out out l) l) (cards_of_item line.item))
     lines none (none_in out lines l sound names))
 
 -- ---- a part as a library of its own

@@ -1,17 +1,11 @@
 -- Whole plain runs on a part of a library.
-use Rattle.std.proofs.Common.{◌≡◌, ℕ, Bool, false, List, Result, Ok, Err, refl, sym, ap, ◌∙◌, subst}
-use Rattle.std.specs.Result.{IfOk}
-use Rattle.upd_text.specs.declared.fault.Fault.{Fault}
-use Rattle.upd_text.specs.Outcome.{◌>>=◌, at_line, each}
-use Rattle.upd_core.specs.Library.{LibraryView}
-use Rattle.upd_core.specs.Sound.{IsSound}
-use Rattle.upd_deck.specs.Items.{ItemView, LineView, Compile}
-use Rattle.upd_apply.specs.declared.state.State.{State}
-use Rattle.upd_apply.specs.Applying.{Reached, ages_brought, applied, started, stepped}
+use Rattle.upd_partial.proofs.Common.{◌≡◌, ℕ, Bool, false, List, Result, Ok, Err, refl, sym, ap, ◌∙◌, subst, IfOk, Fault, ◌>>=◌, at_line, LibraryView}
+use Rattle.upd_partial.proofs.Common.{IsSound, ItemView, LineView, State, Reached, applied, stepped, part, DoesWithout, left_out, reached_in_part}
+use Rattle.upd_text.specs.Outcome.{each}
+use Rattle.upd_deck.specs.Items.{Compile}
+use Rattle.upd_apply.specs.Applying.{ages_brought, started}
 use Rattle.upd_apply.specs.Compile.{decks_in_any, line_ranges, named_decks}
 use Rattle.upd_apply.specs.Names.{Ages}
-use Rattle.upd_core.specs.Parts.{part}
-use Rattle.upd_partial.specs.Needless.{DoesWithout, left_out, reached_in_part}
 use Rattle.upd_partial.proofs.NeedLemmas.{none_in, sound_listed}
 use Rattle.upd_partial.proofs.RunLemmas.{Runs, runs}
 use Rattle.upd_partial.proofs.StepLemmas.{in_part, parted}

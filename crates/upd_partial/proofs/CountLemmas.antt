@@ -1,13 +1,9 @@
 -- The number of decks in a part, and the whole as a part.
-use Rattle.std.proofs.Common.{◌≡◌, ℕ, ◌+◌, ◌≤◌, Bool, true, false, not, cond, ◌||◌, List, [], ◌∷◌, length, map, refl, sym, ap, subst, arith}
+use Rattle.upd_partial.proofs.Common.{◌≡◌, ℕ, ◌+◌, ◌≤◌, Bool, true, false, not, cond, ◌||◌, List, [], ◌∷◌, length, map, refl, sym, ap, subst, arith, ◌==◌}
+use Rattle.upd_partial.proofs.Common.{filter, AllByRecursion, is_among, DeckView, LibraryView, cards_of_decks, entries_of_decks, part_of, IsSound}
+use Rattle.upd_partial.proofs.Common.{deck_ages_apart}
 use Rattle.std.proofs.lemmas.Bool.Decides.{Decides-eqb}
-use Rattle.std.specs.Prelude.{◌==◌}
-use Rattle.std.specs.List.{filter, AllByRecursion}
-use Rattle.upd_core.specs.Edits.{is_among}
-use Rattle.upd_core.specs.Library.{DeckView, LibraryView}
-use Rattle.upd_core.specs.Parts.{cards_of_decks, entries_of_decks, part_of}
-use Rattle.upd_core.specs.Sound.{AreApart, IsSound}
-use Rattle.upd_core.proofs.FoundLemmas.{deck_ages_apart}
+use Rattle.upd_core.specs.Sound.{AreApart}
 
 twice : (b : Bool) → not (not b) ≡ b
 twice true = refl

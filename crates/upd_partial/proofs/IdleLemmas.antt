@@ -1,46 +1,24 @@
 -- Decks that a plain run doesn't need are idle in its status update: no card of them is affected, and the run deletes no card.
-use Rattle.std.proofs.Common.{◌≡◌, ℕ, zero, suc, ◌<◌, Bool, true, false, not, ◌&&◌, ◌||◌, cond, List, [], ◌∷◌, map, slice_get, Option, Some, None, Result, Ok}
-use Rattle.std.proofs.Common.{refl, sym, ap, ◌∙◌, subst, arith}
-use Rattle.std.proofs.lemmas.Bool.Decides.{nat_tests}
+use Rattle.upd_partial.proofs.Common.{◌≡◌, ℕ, zero, suc, ◌<◌, Bool, true, false, not, ◌&&◌, ◌||◌, cond, List, [], ◌∷◌, map, Option, Some, None, Result, Ok}
+use Rattle.upd_partial.proofs.Common.{refl, sym, ap, ◌∙◌, subst, arith, nat_tests, same_Some, IfOk-at_ok, ◌==◌, list_any, filter, flat_map, AllByRecursion}
+use Rattle.upd_partial.proofs.Common.{Contains, CardRef, Fault, ◌>>=◌, Entry, Place, counted_cards, next_age, CardView, DeckView, LibraryView, all_decks}
+use Rattle.upd_partial.proofs.Common.{cards_of, place_of, ref_of, Continues, IsSound, is_active, live_cards, live_targets, status_of, count_on, live_count}
+use Rattle.upd_partial.proofs.Common.{all_by_index, at_contained, contained_at, card_of_place, cards_of_deck, deck_ages_apart, in_flat, place_at, status_at}
+use Rattle.upd_partial.proofs.Common.{same_ref, stood_in, touched, touched_in, LineView, Reached, applied, DecksGoOn, purges_nothing, Grows}
+use Rattle.upd_partial.proofs.Common.{all_applied_grows, all_filter, run_goes, run_sound, cards_found, same_ref_is, all_passed, all_counted, affected}
+use Rattle.upd_partial.proofs.Common.{is_touched, is_due, AreIdle, DoesWithout, NamesNone, left_out}
+use Rattle.std.proofs.Common.{slice_get}
 use Rattle.std.proofs.lemmas.List.Folds.{list_any-append}
-use Rattle.std.proofs.lemmas.Option.{same_Some}
-use Rattle.std.proofs.lemmas.Result.{IfOk-at_ok}
-use Rattle.std.specs.Prelude.{◌==◌, length}
-use Rattle.std.specs.List.{list_any, filter, flat_map, AllByRecursion, Contains}
-use Rattle.upd_text.specs.declared.card_ref.CardRef.{CardRef}
-use Rattle.upd_text.specs.declared.fault.Fault.{Fault}
-use Rattle.upd_text.specs.Outcome.{◌>>=◌}
-use Rattle.upd_core.specs.declared.card.Entry.{Entry}
-use Rattle.upd_core.specs.declared.library.Place.{Place}
-use Rattle.upd_core.specs.Counted.{counted_card, counted_cards}
-use Rattle.upd_core.specs.Edits.{next_age}
-use Rattle.upd_core.specs.Library.{CardView, DeckView, LibraryView, all_decks, cards_of, name_of, place_of, ref_of}
+use Rattle.std.specs.Prelude.{length}
+use Rattle.upd_core.specs.Counted.{counted_card}
+use Rattle.upd_core.specs.Library.{name_of}
 use Rattle.upd_core.specs.Reach.{differs, is_reached, is_retaken}
-use Rattle.upd_core.specs.Sound.{Continues, IsSound}
-use Rattle.upd_core.specs.Status.{is_active, live_cards, live_targets, status_of}
-use Rattle.upd_core.specs.TargetCounts.{count_on, live_count}
 use Rattle.upd_core.specs.declared.target.Target.{Target}
 use Rattle.upd_core.specs.declared.target.Target.TheVariants as target
-use Rattle.upd_core.proofs.ApartLemmas.{all_by_index, at_contained, contained_at}
-use Rattle.upd_core.proofs.FoundLemmas.{card_held, card_of_place, cards_of_deck, deck_ages_apart, in_flat, one_card, place_at, status_at}
-use Rattle.upd_records.specs.Rows.{same_ref}
-use Rattle.upd_diff.specs.Touched.{stood_in, touched, touched_in}
-use Rattle.upd_deck.specs.Items.{LineView}
-use Rattle.upd_apply.specs.Applying.{Reached, applied}
-use Rattle.upd_laws.specs.PurgingBack.{AreAmong, DecksGoOn, Ended, Kept, Come, purges_nothing}
-use Rattle.upd_laws.proofs.BackLibraryLemmas.{Grows, Within}
-use Rattle.upd_laws.proofs.BackStepLemmas.{all_applied_grows}
-use Rattle.upd_laws.proofs.SoundListLemmas.{all_filter}
-use Rattle.upd_laws.proofs.SoundRunLemmas.{run_goes, run_sound}
-use Rattle.upd_yank.proofs.FindLemmas.{cards_found}
+use Rattle.upd_core.proofs.FoundLemmas.{card_held, one_card}
+use Rattle.upd_laws.specs.PurgingBack.{AreAmong, Ended, Kept, Come}
+use Rattle.upd_laws.proofs.BackLibraryLemmas.{Within}
 use Rattle.upd_yank.proofs.KeptLemmas.{same_name}
-use Rattle.upd_records.proofs.EqualLemmas.{same_ref_is}
-use Rattle.upd_yank.proofs.RenewLemmas.{all_passed}
-use Rattle.upd_yank.proofs.StateLemmas.{all_counted}
-use Rattle.upd_yank.specs.Affected.{affected, is_touched}
-use Rattle.upd_yank.specs.Cascade.{is_due}
-use Rattle.upd_yank.specs.Enough.{AreIdle}
-use Rattle.upd_partial.specs.Needless.{DoesWithout, NamesNone, left_out}
 use Rattle.upd_partial.proofs.AppliedLemmas.{applied_left}
 use Rattle.upd_partial.proofs.StayLemmas.{yanks_stay}
 use Rattle.upd_partial.proofs.WholeLemmas.{no_purges, stood}

@@ -1,23 +1,10 @@
 -- Decks that a plain run doesn't need, where it names no yank card: their cards keep their statuses.
-use Rattle.std.proofs.Common.{◌≡◌, ℕ, ◌<◌, Bool, true, false, List, [], ◌∷◌, length, Some, Ok, refl, sym, ap, ◌∙◌, arith}
+use Rattle.upd_partial.proofs.Common.{◌≡◌, ℕ, ◌<◌, Bool, true, false, List, [], ◌∷◌, length, Some, Ok, refl, sym, ap, ◌∙◌, arith, nat_tests, ◌==◌, slice_get}
+use Rattle.upd_partial.proofs.Common.{list_any, AllByRecursion, Contains, CardRef, Place, CardView, DeckView, LibraryView, all_decks, place_of, ref_of}
+use Rattle.upd_partial.proofs.Common.{IsSound, all_cards, is_active, live_cards, status_of, targets_of, all_of_contained, at_contained, contained_at, in_flat}
+use Rattle.upd_partial.proofs.Common.{status_at, refs_stay, LineView, Reached, applied, all_each, run_goes, run_sound, cards_named, is_yank_card, DoesWithout}
+use Rattle.upd_partial.proofs.Common.{NamesNone, is_plain, cards_of_item, left_out}
 use Rattle.std.proofs.lemmas.Bool.{or_parts}
-use Rattle.std.proofs.lemmas.Bool.Decides.{nat_tests}
-use Rattle.std.specs.Prelude.{◌==◌, slice_get}
-use Rattle.std.specs.List.{list_any, AllByRecursion, Contains}
-use Rattle.upd_text.specs.declared.card_ref.CardRef.{CardRef}
-use Rattle.upd_core.specs.declared.library.Place.{Place}
-use Rattle.upd_core.specs.Library.{CardView, DeckView, LibraryView, all_decks, place_of, ref_of}
-use Rattle.upd_core.specs.Sound.{IsSound, all_cards}
-use Rattle.upd_core.specs.Status.{is_active, live_cards, status_of, targets_of}
-use Rattle.upd_core.proofs.ApartLemmas.{all_of_contained, at_contained, contained_at}
-use Rattle.upd_core.proofs.FoundLemmas.{in_flat, status_at}
-use Rattle.upd_diff.proofs.IdentLemmas.{refs_stay}
-use Rattle.upd_deck.specs.Items.{LineView}
-use Rattle.upd_apply.specs.Applying.{Reached, applied}
-use Rattle.upd_laws.proofs.SoundListLemmas.{all_each}
-use Rattle.upd_laws.proofs.SoundRunLemmas.{run_goes, run_sound}
-use Rattle.upd_partial.specs.Needed.{cards_named, is_yank_card}
-use Rattle.upd_partial.specs.Needless.{DoesWithout, NamesNone, is_plain, cards_of_item, left_out}
 use Rattle.upd_partial.proofs.AppliedLemmas.{applied_left}
 use Rattle.upd_partial.proofs.NeedLemmas.{among}
 use Rattle.upd_partial.proofs.StayLemmas.{yanks_stay}
@@ -53,7 +40,8 @@ left_status out lines l reached sound does is stay d c in_left in_cards =
     let m = reached.library in
     let at = contained_at (left_out out l) d in_left in
     let old = among (λ (x : DeckView). out x.ident) (all_decks l) at.0 d at.1 in
-    let new = among (λ (x : DeckView). out x.ident) (all_decks m) at.0 d (ap (λ ds. slice_get ds at.0) (applied_left out lines l reached sound does is) ∙ at.1) in
+    let new = among (λ (x : DeckView). out x.ident) (all_decks m) at.0 d
+    (ap (λ ds. slice_get ds at.0) (applied_left out lines l reached sound does is) ∙ at.1) in
     let place = contained_at d.cards c in_cards in
     let names : ref_of m.idents c ≡ ref_of l.idents c =
     all_of_contained (λ x. ref_of m.idents x ≡ ref_of l.idents x) (all_cards l) c

@@ -14,5 +14,6 @@ pub mod IdleLemmas
 pub mod RenewLemmas
 pub mod PartStatusLemmas
 pub mod AloneLemmas
+pub mod Common
 pub mod PartLeadLemmas
 pub mod PartListingLemmas

@@ -1,21 +1,12 @@
 -- Which decks a run needs, in a sound library.
-use Rattle.std.proofs.Common.{◌≡◌, ℕ, ◌+◌, ◌<◌, ◌≤◌, Bool, true, false, not, cond, ◌&&◌, List, [], ◌∷◌, length, suc, zero, Option, Some, None, refl}
-use Rattle.std.proofs.Common.{sym, ap, arith}
-use Rattle.std.proofs.lemmas.Bool.Decides.{nat_tests}
-use Rattle.std.specs.Prelude.{◌==◌, nat_le, slice_get}
-use Rattle.std.specs.List.{filter, AllByRecursion}
-use Rattle.upd_text.specs.declared.card_ref.CardRef.{CardRef}
-use Rattle.upd_core.specs.declared.library.Place.{Place}
-use Rattle.upd_core.specs.Edits.{is_among}
-use Rattle.upd_core.specs.First.{index_from}
-use Rattle.upd_core.specs.Library.{CardView, DeckView, LibraryView, all_decks, is_card, place_in, place_of}
-use Rattle.upd_core.specs.Sound.{IsOfHeld, IsSound, is_held_deck}
+use Rattle.upd_partial.proofs.Common.{◌≡◌, ℕ, ◌+◌, ◌<◌, ◌≤◌, Bool, true, false, not, cond, ◌&&◌, List, [], ◌∷◌, length, suc, zero, Option, Some, None, refl}
+use Rattle.upd_partial.proofs.Common.{sym, ap, arith, nat_tests, ◌==◌, nat_le, slice_get, filter, AllByRecursion, CardRef, Place, is_among, index_from}
+use Rattle.upd_partial.proofs.Common.{CardView, DeckView, LibraryView, all_decks, is_card, place_in, place_of, IsOfHeld, IsSound, LineView, cards_of_decks}
+use Rattle.upd_partial.proofs.Common.{entries_of_decks, part, part_of, all_each, all_filter, all_weaker, and_left, and_right, same_number, NamesNone}
+use Rattle.upd_partial.proofs.Common.{cards_of_item, is_left_out, left_out}
+use Rattle.upd_core.specs.Sound.{is_held_deck}
 use Rattle.upd_core.proofs.FoundLemmas.{card_place, place_found}
-use Rattle.upd_deck.specs.Items.{LineView}
-use Rattle.upd_core.specs.Parts.{cards_of_decks, entries_of_decks, part, part_of}
 use Rattle.upd_laws.proofs.SoundIdentLemmas.{held_deck_held, held_within}
-use Rattle.upd_laws.proofs.SoundListLemmas.{all_each, all_filter, all_weaker, and_left, and_right, same_number}
-use Rattle.upd_partial.specs.Needless.{NamesNone, cards_of_item, is_left_out, left_out}
 use Rattle.upd_partial.proofs.PartLemmas.{AreNotIn, IsNotIn}
 use Rattle.upd_partial.proofs.RunLemmas.{AreOfListed}
 

@@ -1,27 +1,12 @@
 -- The decks that have the cards which a run names are all that it needs.
-use Rattle.std.proofs.Common.{◌≡◌, ℕ, Bool, true, false, not, ◌&&◌, List, [], ◌∷◌, map, Option, None, Some, refl, sym, ◌∙◌, subst}
-use Rattle.std.proofs.Common.{arith}
-use Rattle.std.proofs.lemmas.Bool.Decides.{nat_tests}
-use Rattle.std.specs.Prelude.{◌==◌, length, nat_le, slice_get}
-use Rattle.std.specs.List.{filter, find, list_any, AllByRecursion}
-use Rattle.std.specs.Option.{option_map_or}
-use Rattle.upd_text.specs.declared.card_ref.CardRef.{CardRef}
-use Rattle.upd_core.specs.declared.ident.Ident.{Ident}
-use Rattle.upd_core.specs.declared.library.Place.{Place}
-use Rattle.upd_core.specs.Edits.{is_among}
-use Rattle.upd_core.specs.Library.{CardView, DeckView, LibraryView, card_in, cards_of, is_deck, place_of, ref_of}
-use Rattle.upd_core.specs.Sound.{IsSound}
-use Rattle.upd_core.proofs.ApartLemmas.{all_by_index}
-use Rattle.upd_core.proofs.FoundLemmas.{card_of_place}
-use Rattle.upd_records.specs.Rows.{same_ref}
+use Rattle.upd_partial.proofs.Common.{◌≡◌, ℕ, Bool, true, false, not, ◌&&◌, List, [], ◌∷◌, map, Option, None, Some, refl, sym, ◌∙◌, subst, arith, nat_tests}
+use Rattle.upd_partial.proofs.Common.{◌==◌, nat_le, slice_get, filter, find, list_any, AllByRecursion, option_map_or, CardRef, Ident, Place, is_among}
+use Rattle.upd_partial.proofs.Common.{CardView, DeckView, LibraryView, card_in, cards_of, is_deck, place_of, ref_of, IsSound, all_by_index, card_of_place}
+use Rattle.upd_partial.proofs.Common.{same_ref, any_of, any_at, LineView, all_each, all_weaker, same_number, cards_named, is_yank_card, NamesNone}
+use Rattle.upd_partial.proofs.Common.{cards_of_item, is_left_out}
+use Rattle.std.specs.Prelude.{length}
 use Rattle.upd_records.proofs.EqualLemmas.{same_ref_own}
-use Rattle.upd_diff.proofs.StateLemmas.{any_of}
-use Rattle.upd_yank.proofs.FindLemmas.{any_at}
-use Rattle.upd_deck.specs.Items.{LineView}
 use Rattle.upd_row_store.specs.Asked.{are_in_yanks, decks_with, holds_one, is_asked}
-use Rattle.upd_laws.proofs.SoundListLemmas.{all_each, all_weaker, same_number}
-use Rattle.upd_partial.specs.Needed.{cards_named, is_yank_card}
-use Rattle.upd_partial.specs.Needless.{NamesNone, cards_of_item, is_left_out}
 
 -- ---- a card that is asked for is in a deck
 

@@ -1,43 +1,26 @@
 -- Changes that take the statuses of a part to those after a plain run take the statuses of the whole to those after it.
-use Rattle.std.proofs.Common.{◌≡◌, ℕ, Bool, true, false, not, cond, if◌then◌else◌, List, [], ◌∷◌, ◌++◌, length, Option, Some, None, Ok, is_some}
-use Rattle.std.proofs.Common.{refl, sym, ap, ◌∙◌, subst, append-nil}
-use Rattle.std.proofs.lemmas.List.Elements.{filter-append}
-use Rattle.std.proofs.lemmas.Option.{same_Some}
-use Rattle.std.specs.Prelude.{◌==◌}
-use Rattle.std.specs.List.{filter, flat_map, list_any, AllByRecursion, Contains}
-use Rattle.upd_text.specs.declared.card_ref.CardRef.{CardRef}
-use Rattle.upd_core.specs.declared.ident.Ident.{Ident}
-use Rattle.upd_core.specs.declared.library.Place.{Place}
-use Rattle.upd_core.specs.Library.{CardView, DeckView, LibraryView, all_decks, place_of, ref_of}
-use Rattle.upd_core.specs.Parts.{part}
-use Rattle.upd_core.specs.Sound.{Continues, IsSound, all_cards}
-use Rattle.upd_core.specs.Status.{status_of}
+use Rattle.upd_partial.proofs.Common.{◌≡◌, ℕ, Bool, true, false, not, cond, if◌then◌else◌, List, [], ◌∷◌, ◌++◌, length, Option, Some, None, Ok, refl, sym, ap}
+use Rattle.upd_partial.proofs.Common.{◌∙◌, subst, filter-append, same_Some, ◌==◌, filter, flat_map, list_any, AllByRecursion, Contains, CardRef, Ident, Place}
+use Rattle.upd_partial.proofs.Common.{CardView, DeckView, LibraryView, all_decks, place_of, ref_of, part, Continues, IsSound, all_cards, status_of}
+use Rattle.upd_partial.proofs.Common.{all_by_index, all_of_contained, at_contained, contained_at, card_of_place, in_flat, place_at, ChangeView, DeckDiffView}
+use Rattle.upd_partial.proofs.Common.{CardDiffView, Kept, card_before, same_ref, RowChanges, begins, brought, gone_of, ident_changes, moves, refs_stay}
+use Rattle.upd_partial.proofs.Common.{taken_by_row_changes, LineView, Reached, applied, all_both, all_flat, all_weaker, run_goes, run_sound, cards_found}
+use Rattle.upd_partial.proofs.Common.{same_ref_is, all_passed, DoesWithout, NamesNone, left_out}
+use Rattle.std.proofs.Common.{is_some, append-nil}
 use Rattle.upd_core.specs.Targets.{is_same}
-use Rattle.upd_core.proofs.ApartLemmas.{all_by_index, all_of_contained, at_contained, contained_at}
-use Rattle.upd_core.proofs.FoundLemmas.{card_of_place, in_flat, place_at}
-use Rattle.upd_records.specs.Changes.{ChangeView, IdentNew, IdentPurged, CardNew, CardGone, CardsMoved, EntryNew, EntriesGone, TargetNew, TargetsGone}
+use Rattle.upd_records.specs.Changes.{IdentNew, IdentPurged, CardNew, CardGone, CardsMoved, EntryNew, EntriesGone, TargetNew, TargetsGone}
 use Rattle.upd_records.specs.Changes.{StatusNow, CountNow, done, done_all, with_status}
 use Rattle.upd_records.proofs.StatusLemmas.{status_set}
-use Rattle.upd_diff.specs.CardDiffs.{DeckDiffView, CardDiffView, Kept, Gone, New, card_before}
-use Rattle.upd_records.specs.Rows.{CountRow, Rows, ShowsStates, StateRow, count_rows, same_ref, state_rows}
+use Rattle.upd_diff.specs.CardDiffs.{Gone, New}
+use Rattle.upd_records.specs.Rows.{CountRow, Rows, ShowsStates, StateRow, count_rows, state_rows}
 use Rattle.upd_diff.specs.States.{takes_card, row_changes_state}
-use Rattle.upd_diff.specs.RowChanges.{RowChanges, begins, brought, card_changes, gone_of, ident_changes, moves, target_changes}
+use Rattle.upd_diff.specs.RowChanges.{card_changes, target_changes}
 use Rattle.upd_diff.proofs.AllLemmas.{all_joined}
-use Rattle.upd_diff.proofs.IdentLemmas.{refs_stay}
 use Rattle.upd_diff.proofs.KindLemmas.{brought_each, idents_all, moves_each}
 use Rattle.upd_diff.proofs.LeadLemmas.{paired_lead}
 use Rattle.upd_diff.proofs.StateLemmas.{filter_gone, filter_kept, state_after, states_gone, states_kept}
-use Rattle.upd_diff.proofs.ShownRowsLemmas.{taken_by_row_changes}
 use Rattle.upd_diff.proofs.RowChangeLemmas.{before_is, flat_twice}
-use Rattle.upd_deck.specs.Items.{LineView}
-use Rattle.upd_apply.specs.Applying.{Reached, applied}
-use Rattle.upd_laws.proofs.SoundListLemmas.{all_both, all_flat, all_weaker}
-use Rattle.upd_laws.proofs.SoundRunLemmas.{run_goes, run_sound}
-use Rattle.upd_yank.proofs.FindLemmas.{cards_found}
-use Rattle.upd_records.proofs.EqualLemmas.{same_ref_is}
 use Rattle.upd_yank.proofs.RefLemmas.{same_ref_sym}
-use Rattle.upd_yank.proofs.RenewLemmas.{all_passed}
-use Rattle.upd_partial.specs.Needless.{DoesWithout, NamesNone, left_out}
 use Rattle.upd_partial.proofs.AppliedLemmas.{applied_left}
 use Rattle.upd_partial.proofs.IdleLemmas.{yanks_as_before}
 use Rattle.upd_partial.proofs.LeftLemmas.{left_status}
@@ -146,7 +129,8 @@ untold (c ∷ cs) r xs ys only none =
 abbrev Leaves : CardRef → ChangeView → Type 0
 Leaves r c = takes_card r c ≡ false
 
-none_gone : (idents : List Ident) (r : CardRef) (card_diffs : List CardDiffView) → AllByRecursion (λ c. same_ref r (ref_of idents c) ≡ false) (flat_map card_before card_diffs)
+none_gone : (idents : List Ident) (r : CardRef) (card_diffs : List CardDiffView)
+    → AllByRecursion (λ c. same_ref r (ref_of idents c) ≡ false) (flat_map card_before card_diffs)
     → AllByRecursion (Leaves r) (flat_map (gone_of idents) card_diffs)
 none_gone idents r [] none = tt
 none_gone idents r (Kept was is ∷ card_diffs) none =
@@ -259,7 +243,8 @@ module _ (out : ℕ → Bool) (lines : List LineView) (l : LibraryView) (reached
       (left_status out lines l reached sound does is (yanks_as_before out lines l reached sound does no_yank is) card.0 card.1 card.2 card.3)
 
   -- no change of the part deletes it
-  left_untaken : (changes : List ChangeView) (r : CardRef) (p : Place) → RowChanges (part out l) (part out m) changes → place_of r l ≡ Some p → out p.deck ≡ true
+  left_untaken : (changes : List ChangeView) (r : CardRef) (p : Place) → RowChanges (part out l) (part out m) changes → place_of r l ≡ Some p → out p.deck
+      ≡ true
       → list_any (takes_card r) changes ≡ false
   left_untaken changes r p row_changes at left =
       untaken (part out l) (part out m) changes r (part_sound out l sound) goes row_changes
@@ -296,7 +281,8 @@ module _ (out : ℕ → Bool) (lines : List LineView) (l : LibraryView) (reached
           filter_kept is_other (λ s. same_ref r s.card) rows.states (λ s looked. of_row r s looked ∙ ap (λ o. not (is_some o)) e)
           ∙ shows.states r ∙ ap (state_rows r) (status_in_whole out l r active sound yanks e ∙ sym e)
 
-  module _ (run updates : List ChangeView) (row_changes : RowChanges (part out l) (part out m) run) (only : AllByRecursion (λ c. row_changes_state c ≡ true) updates)
+  module _ (run updates : List ChangeView) (row_changes : RowChanges (part out l) (part out m) run)
+      (only : AllByRecursion (λ c. row_changes_state c ≡ true) updates)
       (leads : (rows : Rows) → ShowsStates rows (part out l) → ShowsStates (done_all updates (done_all run rows)) (part out m))
       (rows : Rows) (shows : ShowsStates rows l) where
     in_part : ShowsStates (done_all updates (done_all run (rows_in rows))) (part out m)

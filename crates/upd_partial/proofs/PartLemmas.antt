@@ -1,22 +1,13 @@
 -- What is found in a part of a library, what is counted in it, and how it is changed: as in the whole.
-use Rattle.std.proofs.Common.{◌≡◌, ℕ, ◌+◌, Bool, true, false, not, cond, List, [], ◌∷◌, ◌++◌, length, Option, Some, None, refl, sym, ap, ◌∙◌, arith}
+use Rattle.upd_partial.proofs.Common.{◌≡◌, ℕ, ◌+◌, Bool, true, false, not, cond, List, [], ◌∷◌, ◌++◌, length, Option, Some, None, refl, sym, ap, ◌∙◌, arith}
+use Rattle.upd_partial.proofs.Common.{filter-append, sum_by-cons, ◌==◌, sum_by, filter, find, AllByRecursion, option_map_or, CardRef, Place, index_from}
+use Rattle.upd_partial.proofs.Common.{CardView, DeckView, LibraryView, all_decks, cards_of, is_card, is_deck, place_in, place_of, card_count, entry_count}
+use Rattle.upd_partial.proofs.Common.{is_within_limits, cards_of_decks, entries_of_decks, part, same_number, cards_of_item, left_out, LineView}
 use Rattle.std.proofs.lemmas.List.{append-nil}
-use Rattle.std.proofs.lemmas.List.Elements.{filter-append}
 use Rattle.std.proofs.lemmas.List.Filters.{sum_by-filter_both}
-use Rattle.std.proofs.lemmas.List.Sums.{sum_by-cons}
-use Rattle.std.specs.Prelude.{◌==◌, sum_by}
-use Rattle.std.specs.List.{filter, find, AllByRecursion}
-use Rattle.std.specs.Option.{option_map_or}
-use Rattle.upd_text.specs.declared.card_ref.CardRef.{CardRef}
-use Rattle.upd_core.specs.declared.library.Place.{Place}
-use Rattle.upd_core.specs.First.{index_from, at_first}
+use Rattle.upd_core.specs.First.{at_first}
 use Rattle.upd_core.specs.Edits.{with_deck}
-use Rattle.upd_core.specs.Library.{CardView, DeckView, LibraryView, all_decks, cards_of, ident_of, is_card, is_deck, place_in, place_of, with_cards}
-use Rattle.upd_core.specs.Limits.{card_count, entry_count, is_within_limits}
-use Rattle.upd_core.specs.Parts.{cards_of_decks, entries_of_decks, part}
-use Rattle.upd_laws.proofs.SoundListLemmas.{same_number}
-use Rattle.upd_partial.specs.Needless.{cards_of_item, left_out}
-use Rattle.upd_deck.specs.Items.{LineView}
+use Rattle.upd_core.specs.Library.{ident_of, with_cards}
 
 abbrev pub kept_of : (ℕ → Bool) → List DeckView → List DeckView
 kept_of out ds = filter (λ d. not (out d.ident)) ds

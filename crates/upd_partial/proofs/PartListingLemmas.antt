@@ -1,18 +1,11 @@
 -- A part of a library lists what it has as the whole library does.
-use Rattle.std.proofs.Common.{◌≡◌, ℕ, Bool, true, false, if◌then◌else◌, List, ◌++◌, Option, Some, None, Result, Ok, refl, ap, ◌∙◌}
-use Rattle.std.specs.Prelude.{slice_get}
-use Rattle.std.specs.List.{flat_map}
-use Rattle.std.specs.Str.{bytes_eq}
-use Rattle.upd_text.specs.declared.card_ref.CardRef.{CardRef}
-use Rattle.upd_text.specs.declared.fault.Fault.{Fault}
+use Rattle.upd_partial.proofs.Common.{◌≡◌, ℕ, Bool, true, false, if◌then◌else◌, List, ◌++◌, Option, Some, None, Result, Ok, refl, ap, ◌∙◌, slice_get}
+use Rattle.upd_partial.proofs.Common.{flat_map, bytes_eq, CardRef, Fault, ◌>>=◌, at_line, Place, LibraryView, card_in, cards_of, place_of, part, IsSound}
+use Rattle.upd_partial.proofs.Common.{live_targets}
 use Rattle.upd_text.specs.declared.fault.FaultKind.TheVariants.{CardUnknown, DeckUnknown}
 use Rattle.upd_text.specs.Names.{yank_name}
-use Rattle.upd_text.specs.Outcome.{◌>>=◌, need, at_line}
-use Rattle.upd_core.specs.declared.library.Place.{Place}
-use Rattle.upd_core.specs.Library.{LibraryView, card_in, cards_of, deck_of, place_of}
-use Rattle.upd_core.specs.Parts.{part}
-use Rattle.upd_core.specs.Sound.{IsSound}
-use Rattle.upd_core.specs.Status.{live_targets}
+use Rattle.upd_text.specs.Outcome.{need}
+use Rattle.upd_core.specs.Library.{deck_of}
 use Rattle.upd_compile.specs.Listings.{card_lines, card_listing, deck_heading, deck_line, deck_listing}
 use Rattle.upd_partial.proofs.NeedLemmas.{not_in}
 use Rattle.upd_partial.proofs.PartLemmas.{cards_same, place_same}

@@ -1,14 +1,10 @@
 -- A part of a sound library is sound.
-use Rattle.std.proofs.Common.{◌≡◌, ℕ, ◌+◌, ◌<◌, Bool, true, false, not, cond, List, [], ◌∷◌, ◌++◌, length, refl, sym, ap, subst, arith}
-use Rattle.std.proofs.lemmas.List.Sums.{sum_by-cons}
-use Rattle.std.specs.Prelude.{IsTrue}
-use Rattle.std.specs.List.{filter, flat_map, AllByRecursion}
+use Rattle.upd_partial.proofs.Common.{◌≡◌, ℕ, ◌+◌, ◌<◌, Bool, true, false, not, cond, List, [], ◌∷◌, ◌++◌, length, refl, sym, ap, subst, arith, sum_by-cons}
+use Rattle.upd_partial.proofs.Common.{IsTrue, filter, flat_map, AllByRecursion, CardView, DeckView, LibraryView, all_decks, cards_of_decks, entries_of_decks}
+use Rattle.upd_partial.proofs.Common.{part, IsOfHeld, IsSound, IsWhole, all_cards, all_each, all_filter, all_flat}
 use Rattle.upd_core.specs.declared.library.Rest.{Rest}
-use Rattle.upd_core.specs.Library.{CardView, DeckView, LibraryView, all_decks}
-use Rattle.upd_core.specs.Parts.{cards_of_decks, entries_of_decks, part}
-use Rattle.upd_core.specs.Sound.{BeginsOn, BeginsWithItsOwn, HasNoTargets, IsOfHeld, IsSound, IsWhole, all_cards, key_of, stands}
-use Rattle.upd_laws.proofs.SoundListLemmas.{IsPart, kept, none, fewer, all_each, all_filter, all_flat, part_apart, part_append, part_rising, part_same}
-use Rattle.upd_laws.proofs.SoundListLemmas.{part_without}
+use Rattle.upd_core.specs.Sound.{BeginsOn, BeginsWithItsOwn, HasNoTargets, key_of, stands}
+use Rattle.upd_laws.proofs.SoundListLemmas.{IsPart, kept, none, fewer, part_apart, part_append, part_rising, part_same, part_without}
 use Rattle.upd_partial.proofs.PartLemmas.{kept_of, left_of}
 use Rattle.upd_partial.proofs.StayLemmas.{yank_deck}
 use Rattle.upd_partial.proofs.WeaveLemmas.{none_left}

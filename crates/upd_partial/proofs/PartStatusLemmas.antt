@@ -1,21 +1,12 @@
 -- Statuses in a part of a library: its cards have those that they have in the whole, and no other card has one.
-use Rattle.std.proofs.Common.{◌≡◌, ℕ, Bool, true, false, not, ◌||◌, if◌then◌else◌, List, [], ◌∷◌, slice_get, Option, Some, None, refl, sym, ap, ◌∙◌, subst}
-use Rattle.std.proofs.lemmas.Option.{same_Some}
-use Rattle.std.specs.List.{list_any, AllByRecursion, Contains}
-use Rattle.std.specs.Option.{option_and_then, option_map}
-use Rattle.upd_text.specs.declared.card_ref.CardRef.{CardRef}
-use Rattle.upd_core.specs.Counted.{CountedCardView, counted_cards}
-use Rattle.upd_core.specs.declared.library.Place.{Place}
-use Rattle.upd_core.specs.Library.{CardView, DeckView, LibraryView, all_decks, card_in, place_of, ref_of}
-use Rattle.upd_core.specs.Parts.{part}
-use Rattle.upd_core.specs.Sound.{IsSound}
-use Rattle.upd_core.specs.Status.{is_active, live_targets, status_of}
-use Rattle.upd_core.proofs.ApartLemmas.{all_at, at_contained, contained_at}
-use Rattle.upd_core.proofs.FoundLemmas.{place_at, status_at}
-use Rattle.upd_records.specs.Rows.{same_ref}
-use Rattle.upd_yank.proofs.FindLemmas.{any_at}
-use Rattle.upd_records.proofs.EqualLemmas.{same_ref_is}
-use Rattle.upd_yank.proofs.StateLemmas.{all_counted, status_there}
+use Rattle.upd_partial.proofs.Common.{◌≡◌, ℕ, Bool, true, false, not, ◌||◌, if◌then◌else◌, List, [], ◌∷◌, Option, Some, None, refl, sym, ap, ◌∙◌, subst}
+use Rattle.upd_partial.proofs.Common.{same_Some, list_any, AllByRecursion, Contains, option_map, CardRef, CountedCardView, counted_cards, Place, CardView}
+use Rattle.upd_partial.proofs.Common.{DeckView, LibraryView, all_decks, card_in, place_of, ref_of, part, IsSound, is_active, live_targets, status_of}
+use Rattle.upd_partial.proofs.Common.{at_contained, contained_at, place_at, status_at, same_ref, any_at, same_ref_is, all_counted}
+use Rattle.std.proofs.Common.{slice_get}
+use Rattle.std.specs.Option.{option_and_then}
+use Rattle.upd_core.proofs.ApartLemmas.{all_at}
+use Rattle.upd_yank.proofs.StateLemmas.{status_there}
 use Rattle.upd_partial.proofs.NeedLemmas.{among, not_in}
 use Rattle.upd_partial.proofs.PartLemmas.{cards_same, kept_all, place_same}
 use Rattle.upd_partial.proofs.PartSoundLemmas.{part_sound}

@@ -1,21 +1,13 @@
 -- Active cards renewed from the part that a plain run needs.
-use Rattle.std.proofs.Common.{◌≡◌, ℕ, suc, Bool, true, false, not, List, ◌∷◌, slice_get, Some, Ok, refl, sym, ap, subst}
-use Rattle.std.specs.Prelude.{◌==◌}
-use Rattle.std.specs.List.{filter, AllByRecursion, Contains}
+use Rattle.upd_partial.proofs.Common.{◌≡◌, ℕ, suc, Bool, true, false, not, List, ◌∷◌, Some, Ok, refl, sym, ap, subst, ◌==◌, filter, AllByRecursion, Contains}
+use Rattle.upd_partial.proofs.Common.{DeckView, LibraryView, all_decks, part, IsSound, IsWhole, live_cards, targets_of, all_by_index, at_contained, LineView}
+use Rattle.upd_partial.proofs.Common.{Reached, applied, all_filter, all_weaker, run_sound, all_passed, DoesWithout, NamesNone, left_out}
+use Rattle.std.proofs.Common.{slice_get}
 use Rattle.upd_core.specs.Actives.{active_deck, actives_of}
-use Rattle.upd_core.specs.Library.{DeckView, LibraryView, all_decks}
-use Rattle.upd_core.specs.Parts.{part}
-use Rattle.upd_core.specs.Sound.{IsSound, IsWhole}
-use Rattle.upd_core.specs.Status.{live_cards, targets_of}
-use Rattle.upd_core.proofs.ApartLemmas.{all_by_index, at_contained}
-use Rattle.upd_deck.specs.Items.{LineView}
-use Rattle.upd_apply.specs.Applying.{Reached, applied}
-use Rattle.upd_laws.proofs.SoundListLemmas.{all_filter, all_weaker}
-use Rattle.upd_laws.proofs.SoundRunLemmas.{run_sound, run_whole}
-use Rattle.upd_yank.proofs.RenewLemmas.{all_passed, anew_is, renewed_by, renewed_is}
+use Rattle.upd_laws.proofs.SoundRunLemmas.{run_whole}
+use Rattle.upd_yank.proofs.RenewLemmas.{anew_is, renewed_by, renewed_is}
 use Rattle.upd_yank.specs.Renewed.{IsAsBefore, renewed}
 use Rattle.upd_yank.specs.Right.{CacheView, IsRight}
-use Rattle.upd_partial.specs.Needless.{DoesWithout, NamesNone, left_out}
 use Rattle.upd_partial.proofs.AppliedLemmas.{applied_left}
 use Rattle.upd_partial.proofs.IdleLemmas.{yanks_as_before}
 use Rattle.upd_partial.proofs.PartSoundLemmas.{part_sound}

@@ -1,32 +1,18 @@
 -- Plain runs on a part of a library: what they leave in the part is what they leave in the whole, and what is left out stays.
-use Rattle.std.proofs.Common.{◌≡◌, ℕ, ◌-◌, ◌<◌, ◌≤◌, Bool, true, false, cond, ◌&&◌, List, [], ◌∷◌, ◌++◌, length, Option, Some, None}
-use Rattle.std.proofs.Common.{Result, Ok, Err, refl, sym, ap, ◌∙◌, subst, arith}
+use Rattle.upd_partial.proofs.Common.{◌≡◌, ℕ, ◌-◌, ◌<◌, ◌≤◌, Bool, true, false, cond, ◌&&◌, List, [], ◌∷◌, ◌++◌, length, Option, Some, None, Result, Ok, Err}
+use Rattle.upd_partial.proofs.Common.{refl, sym, ap, ◌∙◌, subst, arith, IsTrue, insert, AllByRecursion, option_map, IfOk, bytes_eq, CardRef, Fault, FaultKind}
+use Rattle.upd_partial.proofs.Common.{◌>>=◌, at_line, Entry, entered_range, introduced, next_age, new_card, DeckView, LibraryView, place_in, LineView, State}
+use Rattle.upd_partial.proofs.Common.{stepped, Edit, Stays, MovesAfter, MovesBefore, NewSet, NewDeck, AddsAtEnd, AddsInside, Switches, carried, step}
+use Rattle.upd_partial.proofs.Common.{all_weaker, is_plain, cards_of_item, is_plain_item, left_out}
 use Rattle.std.proofs.lemmas.Bool.{and_parts}
 use Rattle.std.proofs.lemmas.List.Folds.{find-append}
-use Rattle.std.specs.Prelude.{IsTrue, insert}
-use Rattle.std.specs.List.{AllByRecursion}
-use Rattle.std.specs.Option.{option_map, option_or}
-use Rattle.std.specs.Result.{IfOk}
-use Rattle.std.specs.Str.{bytes_eq}
-use Rattle.upd_text.specs.declared.card_ref.CardRef.{CardRef}
-use Rattle.upd_text.specs.declared.fault.Fault.{Fault}
-use Rattle.upd_text.specs.declared.fault.FaultKind.{FaultKind}
-use Rattle.upd_text.specs.Outcome.{◌>>=◌, at_line}
-use Rattle.upd_core.specs.declared.card.Entry.{Entry}
+use Rattle.std.specs.Option.{option_or}
 use Rattle.upd_core.specs.declared.ident.Ident.{Ident as OneIdent}
 use Rattle.upd_core.specs.declared.ident.Kind.{Kind}
 use Rattle.upd_core.specs.declared.ident.Kind.TheVariants as kind
-use Rattle.upd_core.specs.Edits.{entered_range, introduced, next_age, new_card}
-use Rattle.upd_core.specs.Library.{DeckView, LibraryView, held_named, place_in}
-use Rattle.upd_deck.specs.Items.{LineView}
-use Rattle.upd_apply.specs.declared.state.State.{State}
-use Rattle.upd_apply.specs.Applying.{stepped}
-use Rattle.upd_apply.specs.LineEdits.{Edit, Stays, MovesAfter, MovesBefore, NewSet, NewDeck, AddsAtEnd, AddsInside, Switches, carried}
-use Rattle.upd_apply.specs.Step.{step}
+use Rattle.upd_core.specs.Library.{held_named}
 use Rattle.upd_apply.proofs.EditLemmas.{of_each}
 use Rattle.upd_laws.proofs.BackLibraryLemmas.{idents-with_card, idents-with_entries, length-introduced}
-use Rattle.upd_laws.proofs.SoundListLemmas.{all_weaker}
-use Rattle.upd_partial.specs.Needless.{is_plain, cards_of_item, is_plain_item, left_out}
 use Rattle.upd_partial.proofs.PartLemmas.{AreNotIn, IsNotIn, with_cards_left, with_deck_left}
 use Rattle.upd_partial.proofs.StepLemmas.{Leaves, Misses, SpotStays, in_part, misses, parted, step_same}
 
@@ -67,7 +53,8 @@ pub record Keeps (out : ℕ → Bool) (s t : State) : Type 0 where
   pub named : (card : CardRef) → IsNotIn (left_out out s.library) s.library card → IsNotIn (left_out out s.library) t.library card
 
 -- a line that leaves the directory as it is
-same_names : (out : ℕ → Bool) (s t : State) → left_out out t.library ≡ left_out out s.library → t.library.idents ≡ s.library.idents → SpotStays out t.insert_point
+same_names : (out : ℕ → Bool) (s t : State) → left_out out t.library ≡ left_out out s.library → t.library.idents ≡ s.library.idents
+    → SpotStays out t.insert_point
     → Keeps out s t
 same_names out s t left same insert_point = record {
   left = left;

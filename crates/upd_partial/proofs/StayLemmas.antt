@@ -1,20 +1,10 @@
 -- What a plain run leaves as it is.
-use Rattle.std.proofs.Common.{◌≡◌, ℕ, Bool, true, false, List, ◌∷◌, Some, Ok, sym, ap, ◌∙◌}
-use Rattle.std.specs.List.{Contains, list_any}
-use Rattle.upd_core.specs.Library.{CardView, DeckView, LibraryView, all_decks, ref_of}
-use Rattle.upd_core.specs.Sound.{IsSound}
-use Rattle.upd_core.specs.Status.{live_cards, status_of}
-use Rattle.upd_core.specs.TargetCounts.{count_on}
-use Rattle.upd_core.proofs.FoundLemmas.{status_at}
-use Rattle.upd_records.specs.Rows.{same_ref}
-use Rattle.upd_diff.specs.Touched.{touched}
-use Rattle.upd_deck.specs.Items.{LineView}
-use Rattle.upd_apply.specs.Applying.{Reached, applied}
-use Rattle.upd_laws.proofs.SoundRunLemmas.{run_goes, run_sound}
+use Rattle.upd_partial.proofs.Common.{◌≡◌, ℕ, Bool, true, false, List, ◌∷◌, Some, Ok, sym, ap, ◌∙◌, Contains, list_any, CardView, DeckView, LibraryView}
+use Rattle.upd_partial.proofs.Common.{all_decks, ref_of, IsSound, live_cards, status_of, count_on, status_at, same_ref, touched, LineView, Reached, applied}
+use Rattle.upd_partial.proofs.Common.{run_goes, run_sound, DoesWithout}
 use Rattle.upd_yank.specs.Cascade.{is_active_by}
 use Rattle.upd_yank.proofs.FlipLemmas.{status_is}
 use Rattle.upd_yank.proofs.KeptLemmas.{untouched_status}
-use Rattle.upd_partial.specs.Needless.{DoesWithout}
 use Rattle.upd_partial.proofs.AppliedLemmas.{applied_left}
 
 same_first : {A : Type 0} (x y : A) (xs ys : List A) → x ∷ xs ≡ y ∷ ys → x ≡ y

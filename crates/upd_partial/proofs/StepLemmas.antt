@@ -1,27 +1,16 @@
 -- One plain line on a part of a library: what it does to the part is what it does to the whole.
-use Rattle.std.proofs.Common.{◌≡◌, ℕ, ◌+◌, ◌-◌, ◌<◌, Bool, true, false, not, ◌&&◌, ◌||◌, List, [], ◌∷◌, length, Some, Result, Ok, Err, refl, ap, ◌∙◌, subst}
-use Rattle.std.proofs.Common.{arith}
-use Rattle.std.specs.Prelude.{insert}
-use Rattle.std.specs.List.{AllByRecursion}
-use Rattle.std.specs.Result.{IfOk}
-use Rattle.upd_text.specs.declared.fault.FaultKind.{FaultKind}
+use Rattle.upd_partial.proofs.Common.{◌≡◌, ℕ, ◌+◌, ◌-◌, ◌<◌, Bool, true, false, not, ◌&&◌, ◌||◌, List, [], ◌∷◌, length, Some, Result, Ok, Err, refl, ap, ◌∙◌}
+use Rattle.upd_partial.proofs.Common.{subst, arith, insert, AllByRecursion, IfOk, FaultKind, ◌>>=◌, Place, entered_range, introduced, next_age, new_card}
+use Rattle.upd_partial.proofs.Common.{DeckView, is_within_limits, ItemView, LineView, State, is_purge, is_yank, Edit, Stays, MovesAfter, MovesBefore, NewSet}
+use Rattle.upd_partial.proofs.Common.{NewDeck, AddsAtEnd, AddsInside, Switches, carried, step, part, cards_of_item, is_plain_item, left_out}
 use Rattle.upd_text.specs.declared.fault.FaultKind.TheVariants as fault
-use Rattle.upd_text.specs.Outcome.{◌>>=◌, refuse_if}
-use Rattle.upd_core.specs.declared.library.Place.{Place}
-use Rattle.upd_core.specs.Edits.{entered_range, introduced, next_age, new_card}
-use Rattle.upd_core.specs.Library.{DeckView}
-use Rattle.upd_core.specs.Limits.{is_within_limits}
-use Rattle.upd_deck.specs.Items.{ItemView, LineView, Insert, Before, Delete, Restore}
+use Rattle.upd_text.specs.Outcome.{refuse_if}
+use Rattle.upd_deck.specs.Items.{Insert, Before, Delete, Restore}
 use Rattle.upd_apply.specs.declared.state.InsertPoint.{InsertPoint}
 use Rattle.upd_apply.specs.declared.state.InsertPoint.TheVariants.{Nowhere, End, Inside}
-use Rattle.upd_apply.specs.declared.state.State.{State}
-use Rattle.upd_apply.specs.Directives.{is_purge, is_yank}
-use Rattle.upd_apply.specs.LineEdits.{Edit, Stays, MovesAfter, MovesBefore, NewSet, NewDeck, AddsAtEnd, AddsInside, Switches, AddsYank, Purges, PurgesIn}
-use Rattle.upd_apply.specs.LineEdits.{adds, after_card, carried}
-use Rattle.upd_apply.specs.Step.{carried_out, judged, step}
+use Rattle.upd_apply.specs.LineEdits.{AddsYank, Purges, PurgesIn, adds, after_card}
+use Rattle.upd_apply.specs.Step.{carried_out, judged}
 use Rattle.upd_apply.proofs.EditLemmas.{Fits, IsMove, judged_fits}
-use Rattle.upd_core.specs.Parts.{part}
-use Rattle.upd_partial.specs.Needless.{cards_of_item, is_plain_item, left_out}
 use Rattle.upd_partial.proofs.PartLemmas.{IsNotIn, cards_same, deck_kept, limits_same, place_same, with_cards_same, with_deck_same}
 
 -- the state with a part of its library
@@ -123,7 +112,11 @@ edit_same out s (AddsInside d after c text) stays =
     λ i. record { library = same i; current_set = Some (after_card c); insert_point = s.insert_point }
 edit_same out s (Switches active c p q) stays =
     let same = with_cards_same out p.deck (entered_range p.index q.index (record { ident = c.ident; active = active })) s.library stays.0 in
-    λ i. record { library = same i; current_set = s.current_set; insert_point = Inside q.deck (length (cards_same out q.deck s.library stays.1 i) - (q.index + 1)) }
+    λ i. record {
+      library = same i;
+      current_set = s.current_set;
+      insert_point = Inside q.deck (length (cards_same out q.deck s.library stays.1 i) - (q.index + 1));
+    }
 edit_same out s Stays stays = refl
 edit_same out s (NewSet name) stays = refl
 edit_same out s _ stays = absurd stays

@@ -1,18 +1,11 @@
 -- Card diffs of the decks of a part, and between them those of the decks that are left out: these stay, and have no changes.
-use Rattle.std.proofs.Common.{◌≡◌, ℕ, ◌+◌, ◌<◌, ◌≤◌, ◌^◌, Bool, true, false, cond, List, [], ◌∷◌, ◌++◌, map, length, take, drop, inl, inr, refl, sym, ap}
-use Rattle.std.proofs.Common.{◌∙◌, subst, arith}
+use Rattle.upd_partial.proofs.Common.{◌≡◌, ℕ, ◌+◌, ◌<◌, ◌≤◌, Bool, true, false, cond, List, [], ◌∷◌, ◌++◌, map, length, take, inr, refl, sym, ap, ◌∙◌, subst}
+use Rattle.upd_partial.proofs.Common.{arith, sum_by-cons, ◌==◌, sum_by, flat_map, AllByRecursion, Entry, Ident, same_entry, CardView, DeckView, CardDiffView}
+use Rattle.upd_partial.proofs.Common.{DeckDiffView, Kept, Paired, card_before, begins, brought, gone_of, ident_changes, moves, ref_of, both, is_same_number}
+use Rattle.std.proofs.Common.{◌^◌, drop, inl}
 use Rattle.std.proofs.lemmas.List.{drop_all}
-use Rattle.std.proofs.lemmas.List.Sums.{sum_by-cons}
-use Rattle.std.specs.Prelude.{◌==◌, sum_by}
-use Rattle.std.specs.List.{flat_map, AllByRecursion}
-use Rattle.upd_core.specs.declared.card.Entry.{Entry}
-use Rattle.upd_core.specs.declared.ident.Ident.{Ident}
-use Rattle.upd_core.specs.Entries.{same_entry}
-use Rattle.upd_core.specs.Library.{CardView, DeckView}
-use Rattle.upd_diff.specs.CardDiffs.{CardDiffView, DeckDiffView, Kept, AreOfDeck, IsKept, Paired, card_after, card_before}
-use Rattle.upd_diff.specs.RowChanges.{begins, brought, entries_new, gone_of, grown, ident_changes, moves, row_changes}
-use Rattle.upd_core.specs.Library.{ref_of}
-use Rattle.upd_laws.proofs.SoundListLemmas.{both, is_same_number}
+use Rattle.upd_diff.specs.CardDiffs.{AreOfDeck, IsKept, card_after}
+use Rattle.upd_diff.specs.RowChanges.{entries_new, grown, row_changes}
 use Rattle.upd_partial.proofs.PartLemmas.{kept_of, left_of}
 
 -- ---- a deck that stays has no changes

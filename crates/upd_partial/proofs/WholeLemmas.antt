@@ -1,33 +1,17 @@
 -- The row changes and touched cards of a plain run on a part are those on the whole.
-use Rattle.std.proofs.Common.{◌≡◌, ℕ, suc, ◌≤◌, Bool, true, false, not, ◌&&◌, ◌||◌, List, [], ◌∷◌, ◌++◌, map, length, Result, Ok, Err, refl, sym, ap, ◌∙◌, subst, arith}
-use Rattle.std.proofs.lemmas.Bool.Decides.{nat_tests}
-use Rattle.std.proofs.lemmas.Result.{IfOk-at_ok}
-use Rattle.std.specs.Prelude.{◌==◌, nat_le, slice_get, Some}
-use Rattle.std.specs.List.{filter, flat_map, AllByRecursion}
-use Rattle.upd_text.specs.declared.fault.Fault.{Fault}
+use Rattle.upd_partial.proofs.Common.{◌≡◌, ℕ, suc, ◌≤◌, Bool, true, false, not, ◌&&◌, ◌||◌, List, [], ◌∷◌, ◌++◌, map, length, Result, Ok, Err, refl, sym, ap}
+use Rattle.upd_partial.proofs.Common.{◌∙◌, subst, arith, nat_tests, IfOk-at_ok, ◌==◌, nat_le, slice_get, filter, flat_map, AllByRecursion, Fault, Entry}
+use Rattle.upd_partial.proofs.Common.{Ident, same_entry, CardView, DeckView, LibraryView, all_decks, cards_of, is_card, ref_of, card_count, entry_count}
+use Rattle.upd_partial.proofs.Common.{is_within_limits, part, part_of, IsSound, all_by_index, cards_of_deck, ChangeView, Paired, RowChanges, stood_in}
+use Rattle.upd_partial.proofs.Common.{touched, touched_in, any_of, LineView, Reached, applied, is_purge, is_yank, DecksGoOn, purges_nothing, Grows}
+use Rattle.upd_partial.proofs.Common.{all_applied_grows, all_filter, all_weaker, and_left, and_right, both, is_same_number, DoesWithout, NamesNone, is_plain}
+use Rattle.upd_partial.proofs.Common.{is_left_out, is_plain_item, left_out, reached_in_part}
+use Rattle.std.specs.Prelude.{Some}
 use Rattle.upd_text.specs.declared.limits.TheConstants.{MAX_HELD, MAX_INTRODUCED, MAX_CARDS, MAX_ENTRIES, MAX_TARGETS}
-use Rattle.upd_core.specs.declared.card.Entry.{Entry}
-use Rattle.upd_core.specs.declared.ident.Ident.{Ident}
-use Rattle.upd_core.specs.Entries.{same_entry}
-use Rattle.upd_core.specs.Library.{CardView, DeckView, LibraryView, all_decks, cards_of, is_card, ref_of}
-use Rattle.upd_core.specs.Limits.{card_count, entry_count, held_count, is_within_limits, target_count}
-use Rattle.upd_core.specs.Parts.{part, part_of}
-use Rattle.upd_core.specs.Sound.{IsSound}
-use Rattle.upd_core.proofs.ApartLemmas.{all_by_index, rising_apart}
-use Rattle.upd_core.proofs.FoundLemmas.{cards_of_deck}
-use Rattle.upd_records.specs.Changes.{ChangeView}
-use Rattle.upd_diff.specs.CardDiffs.{Paired}
-use Rattle.upd_diff.specs.RowChanges.{RowChanges}
-use Rattle.upd_diff.specs.Touched.{same_history, stood_in, touched, touched_in}
-use Rattle.upd_diff.proofs.StateLemmas.{any_of}
-use Rattle.upd_deck.specs.Items.{LineView}
-use Rattle.upd_apply.specs.Applying.{Reached, applied}
-use Rattle.upd_apply.specs.Directives.{is_purge, is_yank}
-use Rattle.upd_laws.specs.PurgingBack.{DecksGoOn, purges_nothing}
-use Rattle.upd_laws.proofs.BackLibraryLemmas.{Grows}
-use Rattle.upd_laws.proofs.BackStepLemmas.{all_applied_grows}
-use Rattle.upd_laws.proofs.SoundListLemmas.{all_filter, all_weaker, and_left, and_right, both, is_same_number}
-use Rattle.upd_partial.specs.Needless.{DoesWithout, IsOnWhole, NamesNone, is_plain, is_left_out, is_plain_item, left_out, reached_in_part}
+use Rattle.upd_core.specs.Limits.{held_count, target_count}
+use Rattle.upd_core.proofs.ApartLemmas.{rising_apart}
+use Rattle.upd_diff.specs.Touched.{same_history}
+use Rattle.upd_partial.specs.Needless.{IsOnWhole}
 use Rattle.upd_partial.proofs.AppliedLemmas.{applied_left, applied_same}
 use Rattle.upd_partial.proofs.NeedLemmas.{others_listed, part_of_others}
 use Rattle.upd_partial.proofs.PartLemmas.{cards_same, kept_all, kept_of, left_of}
@@ -167,7 +151,8 @@ on_whole ages lines l here changes sound within plain names is row_changes = go 
         let parted : record there { library = part out there.library } ≡ here = same_ok _ here _ (Ok here) (ap (reached_in_part out) e) refl same in
         let library : part out there.library ≡ here.library = ap (λ (r : Reached). r.library) parted in
         let in_part : RowChanges (part out l) (part out there.library) changes =
-        subst (λ m. RowChanges (part out l) m changes) (sym library) (subst (λ m. RowChanges m here.library changes) (part_of_others ages l sound) row_changes) in
+        subst (λ m. RowChanges (part out l) m changes) (sym library)
+        (subst (λ m. RowChanges m here.library changes) (part_of_others ages l sound) row_changes) in
         record {
           there = there;
           reached = e;

@@ -5,11 +5,6 @@ use Rattle.std.specs.List.{count_by, filter, flat_map, AllByRecursion}
 use Rattle.std.proofs.lemmas.List.Sums.{sum_by-append, sum_by-cons}
 use Rattle.upd_records.specs.Rows.{IsSame}
 
--- both ways of a test
-pub either : {A : Type 0} (P : A → Type 0) (b : Bool) (x y : A) → (b ≡ true → P x) → (b ≡ false → P y) → P (cond b x y)
-either P true x y so otherwise = so refl
-either P false x y so otherwise = otherwise refl
-
 pub count_cons : {A : Type 0} (test : A → Bool) (x : A) (xs : List A) → count_by test (x ∷ xs) ≡ cond (test x) 1 0 + count_by test xs
 count_cons test x xs = sum_by-cons (λ y. cond (test y) 1 0) x xs
 

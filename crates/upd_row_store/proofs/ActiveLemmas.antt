@@ -1,25 +1,16 @@
 -- The active cards out of rows of cards and statuses that show a library are those of the library.
-use Rattle.std.proofs.Common.{◌≡◌, ◌+◌, ℕ, Bool, true, false, ◌||◌, cond, List, [], ◌∷◌, ◌++◌, append-nil, map, slice_index_or}
-use Rattle.std.proofs.Common.{refl, ap, sym, ◌∙◌, subst, arith}
+use Rattle.upd_row_store.proofs.Common.{◌≡◌, ◌+◌, ℕ, Bool, true, false, ◌||◌, cond, List, [], ◌∷◌, ◌++◌, append-nil, map, slice_index_or, refl, ap, sym, ◌∙◌}
+use Rattle.upd_row_store.proofs.Common.{subst, arith, Decides-eqb, append_assoc, filter, flat_map, list_any, AllByRecursion, IsSortedBy, is_lt, card_order}
+use Rattle.upd_row_store.proofs.Common.{CardRef, all_back, all_by_index, all_front, at_contained, held_found, Ident, CardView, DeckView, LibraryView}
+use Rattle.upd_row_store.proofs.Common.{all_decks, name_of, ref_of, AreRising, BeginsWithItsOwn, IsOfHeld, IsSound, same_filter, same_trans, CardRow, IsSame}
+use Rattle.upd_row_store.proofs.Common.{Rows, Shows, ShowsStates, card_rows, same_ref, actives_from, actives_in, behind_yanks, AreByAge, AreByPlace, age_named}
 use Rattle.std.specs.Prelude.{◌==◌}
-use Rattle.std.proofs.lemmas.Bool.Decides.{Decides-eqb}
-use Rattle.std.proofs.lemmas.List.{append_assoc}
-use Rattle.std.specs.List.{Contains, filter, flat_map, list_any, AllByRecursion}
-use Rattle.std.specs.List.Sorted.{IsSortedBy}
-use Rattle.std.specs.Ordering.{is_lt}
-use Rattle.upd_text.specs.Order.{card_order}
-use Rattle.upd_text.specs.declared.card_ref.CardRef.{CardRef}
-use Rattle.upd_core.proofs.ApartLemmas.{all_back, all_by_index, all_front, at_contained}
-use Rattle.upd_core.proofs.FoundLemmas.{held_found, status_at}
+use Rattle.std.specs.List.{Contains}
+use Rattle.upd_core.proofs.FoundLemmas.{status_at}
 use Rattle.upd_core.specs.Actives.{ActiveCardView, ActiveDeckView, active_deck, actives_of, without_past}
-use Rattle.upd_core.specs.declared.ident.Ident.{Ident}
-use Rattle.upd_core.specs.Library.{CardView, DeckView, LibraryView, all_decks, name_of, ref_of}
-use Rattle.upd_core.specs.Sound.{AreRising, BeginsWithItsOwn, IsOfHeld, IsSound}
 use Rattle.upd_core.specs.Status.{is_active, live_targets}
-use Rattle.upd_records.proofs.CountLemmas.{same_filter, same_trans}
-use Rattle.upd_records.specs.Rows.{CardRow, IsSame, Rows, Shows, ShowsStates, StateRow, card_rows, same_ref, state_rows}
-use Rattle.upd_row_store.specs.Activating.{active_card, actives_from, actives_in, behind_yanks, is_active_in, with_active}
-use Rattle.upd_row_store.specs.Assembling.{AreByAge, AreByPlace, age_named}
+use Rattle.upd_records.specs.Rows.{StateRow, state_rows}
+use Rattle.upd_row_store.specs.Activating.{active_card, is_active_in, with_active}
 use Rattle.upd_row_store.proofs.AssembleLemmas.{age_found, cards_in_place, idents_in_place}
 use Rattle.upd_row_store.proofs.HolderLemmas.{any_same}
 use Rattle.upd_row_store.proofs.KeyLemmas.{then_equal}

@@ -1,23 +1,14 @@
 -- Cards that are asked for, as sets and lists in order, and the statuses of these cards alone.
-use Rattle.std.proofs.Common.{◌≡◌, ℕ, ◌+◌, ◌<◌, Bool, true, false, ◌||◌, cond, List, [], ◌∷◌, ◌++◌, length, get_or, map, take}
-use Rattle.std.proofs.Common.{refl, ap, sym, subst, ◌∙◌}
+use Rattle.upd_row_store.proofs.Common.{◌≡◌, ℕ, ◌+◌, ◌<◌, Bool, true, false, ◌||◌, cond, List, [], ◌∷◌, ◌++◌, length, get_or, map, take, refl, ap, sym, subst}
+use Rattle.upd_row_store.proofs.Common.{◌∙◌, dedup, filter, list_any, IsPermutation, IsSorted, IsTotalOrder, nat_cmp_total, nat_list_cmp_total, on_total}
+use Rattle.upd_row_store.proofs.Common.{then_total, is_eq, CardRef, by_name, is_same_reference, is_same-is_eq, any_append, same_ref_is, IsSame, Rows}
+use Rattle.upd_row_store.proofs.Common.{same_ref, is_asked}
 use Rattle.std.proofs.lemmas.List.{take_more}
 use Rattle.std.specs.BTreeSet as sorted
 use Rattle.std.specs.BTreeSet.{BTreeSet}
-use Rattle.std.specs.List.{dedup, filter, list_any}
-use Rattle.std.specs.List.Sorted.{IsPermutation, IsSorted, IsStrictlySortedBy}
-use Rattle.std.specs.Cmp.{IsTotalOrder}
-use Rattle.std.proofs.lemmas.Cmp.{nat_cmp_total, nat_list_cmp_total, on_total, then_total}
+use Rattle.std.specs.List.Sorted.{IsStrictlySortedBy}
 use Rattle.std.proofs.lemmas.List.Kept.{IsStrictlySortedBy-dedup}
 use Rattle.std.proofs.lemmas.List.Sorted.{list_any-IsPermutation}
-use Rattle.std.specs.Ordering.{is_eq}
-use Rattle.upd_text.specs.declared.card_ref.CardRef.{CardRef}
-use Rattle.upd_text.specs.Order.{by_name, is_same_reference}
-use Rattle.upd_text.proofs.OrderLemmas.{is_same-is_eq}
-use Rattle.upd_records.proofs.EffectLemmas.{any_append}
-use Rattle.upd_records.proofs.EqualLemmas.{same_ref_is}
-use Rattle.upd_records.specs.Rows.{IsSame, Rows, same_ref}
-use Rattle.upd_row_store.specs.Asked.{is_asked}
 use Rattle.upd_row_store.specs.Tables.{state_pair}
 use Rattle.upd_row_store.proofs.HolderLemmas.{any_once}
 

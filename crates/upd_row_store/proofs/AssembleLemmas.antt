@@ -1,35 +1,23 @@
 -- The library of rows that show a sound library, in order, is that library.
-use Rattle.std.proofs.Common.{◌≡◌, ℕ, ◌+◌, Bool, true, false, not, ◌&&◌, cond, List, [], ◌∷◌, ◌++◌, map, Option, Some, None, append-nil}
-use Rattle.std.proofs.Common.{refl, ap, sym, ◌∙◌, subst, arith}
+use Rattle.upd_row_store.proofs.Common.{◌≡◌, ℕ, ◌+◌, Bool, true, false, not, ◌&&◌, cond, List, [], ◌∷◌, ◌++◌, map, Option, Some, None, append-nil, refl, ap}
+use Rattle.upd_row_store.proofs.Common.{sym, ◌∙◌, subst, arith, slice_cmp, nat_cmp, option_map, option_map_or, Decides-eqb, append_assoc, same_Some}
+use Rattle.upd_row_store.proofs.Common.{bytes_eq-Decides, filter, flat_map, AllByRecursion, bytes_eq, all_back, all_front, held_found, refs_apart, Entry}
+use Rattle.upd_row_store.proofs.Common.{Ident, CardView, DeckView, LibraryView, all_decks, held_named, name_of, ref_of, AreRising, BeginsWithItsOwn, IsSound}
+use Rattle.upd_row_store.proofs.Common.{all_cards, same_filter, same_of, same_trans, same_ref_is, same_ref_own, CardRow, EntryRow, IsSame, TargetRow}
+use Rattle.upd_row_store.proofs.Common.{card_rows, entry_rows, rows_of, same_ref, target_rows, AreByAge, AreByPlace, age_named, decks_from, decks_in}
+use Rattle.upd_row_store.proofs.Common.{library_of}
 use Rattle.std.specs.Prelude.{◌==◌}
 use Rattle.std.specs.BTreeMap.{is_at}
-use Rattle.std.specs.Cmp.Lexicographic.{slice_cmp}
-use Rattle.std.specs.Ordering.{nat_cmp}
 use Rattle.std.proofs.lemmas.Map.Text.{is_eq-slice_cmp}
 use Rattle.upd_text.specs.Units.{Bytes}
-use Rattle.std.specs.Option.{option_map, option_map_or}
-use Rattle.std.proofs.lemmas.Bool.Decides.{Decides-eqb}
-use Rattle.std.proofs.lemmas.List.{append_assoc}
-use Rattle.std.proofs.lemmas.Option.{same_Some}
-use Rattle.std.proofs.lemmas.Slice.Eq.{bytes_eq-Decides}
-use Rattle.std.specs.List.{filter, flat_map, AllByRecursion}
-use Rattle.std.specs.Str.{bytes_eq}
-use Rattle.upd_core.proofs.ApartLemmas.{all_back, all_front}
 use Rattle.upd_core.proofs.CountedLemmas.{same_target, target_same}
-use Rattle.upd_core.proofs.FoundLemmas.{held_found, refs_apart}
-use Rattle.upd_core.specs.declared.card.Entry.{Entry}
-use Rattle.upd_core.specs.declared.ident.Ident.{Ident}
 use Rattle.upd_core.specs.declared.ident.Kind.{Kind}
 use Rattle.upd_core.specs.declared.ident.Kind.TheVariants.{Set, Deck, Common}
 use Rattle.upd_core.specs.Entries.{same_entry}
-use Rattle.upd_core.specs.Library.{CardView, DeckView, LibraryView, all_decks, empty, held_named, name_of, ref_of}
-use Rattle.upd_core.specs.Sound.{AreRising, BeginsWithItsOwn, IsSound, all_cards}
+use Rattle.upd_core.specs.Library.{empty}
 use Rattle.upd_core.specs.Targets.{is_same}
-use Rattle.upd_records.proofs.CountLemmas.{same_filter, same_of, same_trans}
-use Rattle.upd_records.proofs.EqualLemmas.{same_entry_is, same_ref_is, same_ref_own}
-use Rattle.upd_records.specs.Rows.{CardRow, EntryRow, IsSame, TargetRow, card_rows, entry_rows, rows_of, same_ref, target_rows}
-use Rattle.upd_row_store.specs.Assembling.{AreByAge, AreEntriesByCard, AreByPlace, AreTargetsByCard, age_named, card_of_row, decks_from, decks_in, entries_of}
-use Rattle.upd_row_store.specs.Assembling.{library_of, targets_of}
+use Rattle.upd_records.proofs.EqualLemmas.{same_entry_is}
+use Rattle.upd_row_store.specs.Assembling.{AreEntriesByCard, AreTargetsByCard, card_of_row, entries_of, targets_of}
 use Rattle.upd_row_store.proofs.PlaceLemmas.{age_order, ages_rise, in_front, older, place_order, places_rise}
 use Rattle.upd_row_store.proofs.RowLemmas.{entries_again, entries_rise, of_entries, of_targets, own_rows, row_below, row_order, targets_again, targets_rise}
 use Rattle.upd_row_store.proofs.SortLemmas.{all_three, in_order, order_kept, same_list, weaker}

@@ -1,12 +1,7 @@
 -- Where the rows of a card stand among rows in order of their cards.
-use Rattle.std.proofs.Common.{◌≡◌, ℕ, ◌-◌, ◌<◌, ◌≤◌, Bool, true, false, List, length, take, get_or}
-use Rattle.std.proofs.Common.{refl, sym, ◌∙◌, arith}
-use Rattle.std.specs.List.{AllWithin, HoldsAt, filter}
-use Rattle.std.specs.List.Sorted.{IsPartitionPoint, IsPartitionedBy}
-use Rattle.std.specs.Ordering.{is_le, is_lt}
-use Rattle.upd_text.specs.Order.{card_order}
-use Rattle.upd_text.specs.declared.card_ref.CardRef.{CardRef}
-use Rattle.upd_records.specs.Rows.{same_ref}
+use Rattle.upd_row_store.proofs.Common.{◌≡◌, ℕ, ◌-◌, ◌<◌, ◌≤◌, Bool, true, false, List, length, take, get_or, refl, sym, ◌∙◌, arith, AllWithin, filter}
+use Rattle.upd_row_store.proofs.Common.{IsPartitionPoint, IsPartitionedBy, is_le, is_lt, card_order, CardRef, same_ref}
+use Rattle.std.specs.List.{HoldsAt}
 use Rattle.upd_row_store.specs.ByCard.{AreByCard}
 use Rattle.upd_row_store.proofs.ActiveLemmas.{ordered_rows}
 use Rattle.upd_row_store.proofs.RowLemmas.{left_behind, parted_below, parted_left, rows_between}

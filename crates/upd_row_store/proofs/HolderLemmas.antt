@@ -1,20 +1,13 @@
 -- Which decks hold cards that are asked for, as the rows of cards tell it.
-use Rattle.std.proofs.Common.{◌≡◌, ℕ, suc, ◌+◌, ◌<◌, ◌≤◌, ◌==◌, Bool, true, false, not, ◌&&◌, ◌||◌, cond, List, [], ◌∷◌, map}
-use Rattle.std.proofs.Common.{nat_lt, slice_index, refl, ap, sym, ◌∙◌, subst, arith, IsPermutation}
-use Rattle.std.proofs.lemmas.Bool.Decides.{Decides-eqb, nat_tests}
+use Rattle.upd_row_store.proofs.Common.{◌≡◌, ℕ, suc, ◌+◌, ◌<◌, ◌≤◌, ◌==◌, Bool, true, false, not, ◌&&◌, ◌||◌, cond, List, [], ◌∷◌, map, refl, ap, sym, ◌∙◌}
+use Rattle.upd_row_store.proofs.Common.{subst, arith, Decides-eqb, nat_tests, count_by, dedup, filter, flat_map, list_any, AllByRecursion, IsSorted, nat_cmp}
+use Rattle.upd_row_store.proofs.Common.{CardRef, Ident, is_among, CardView, DeckView, LibraryView, all_decks, ref_of, AreRising, IsSound, count_cons}
+use Rattle.upd_row_store.proofs.Common.{any_append, CardRow, IsSame, Rows, Shows, card_rows, is_asked}
+use Rattle.std.proofs.Common.{nat_lt, slice_index, IsPermutation}
 use Rattle.std.proofs.lemmas.Map.Keys.{IsStrictlyIncreasing-dedup}
-use Rattle.std.specs.List.{count_by, dedup, dedup_from, filter, flat_map, list_any, AllByRecursion}
-use Rattle.std.specs.List.Sorted.{IsSorted, IsStrictlyIncreasing}
-use Rattle.std.specs.Ordering.{nat_cmp}
-use Rattle.upd_text.specs.declared.card_ref.CardRef.{CardRef}
-use Rattle.upd_core.specs.declared.ident.Ident.{Ident}
-use Rattle.upd_core.specs.Edits.{is_among}
-use Rattle.upd_core.specs.Library.{CardView, DeckView, LibraryView, all_decks, ref_of}
-use Rattle.upd_core.specs.Sound.{AreRising, IsSound}
-use Rattle.upd_records.proofs.CountLemmas.{count_cons}
-use Rattle.upd_records.proofs.EffectLemmas.{any_append}
-use Rattle.upd_records.specs.Rows.{CardRow, IsSame, Rows, Shows, card_rows}
-use Rattle.upd_row_store.specs.Asked.{AreDecksOf, are_in_yanks, decks_with, holds_one, is_asked}
+use Rattle.std.specs.List.{dedup_from}
+use Rattle.std.specs.List.Sorted.{IsStrictlyIncreasing}
+use Rattle.upd_row_store.specs.Asked.{AreDecksOf, are_in_yanks, decks_with, holds_one}
 use Rattle.upd_row_store.proofs.SortLemmas.{same_permuted, weaker}
 
 -- ---- rising numbers

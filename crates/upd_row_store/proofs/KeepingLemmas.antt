@@ -1,10 +1,10 @@
 -- Out of memory leaves an arrival unanswered, and is no failure of a store; what faults count.
-use Rattle.std.proofs.Common.{◌≡◌, ℕ, Result, Ok, Err, IfErr, refl, ap, ◌∙◌, rules, arith}
-use Rattle.std.specs.Result.{IsErrAnd}
-use Rattle.upd_text.specs.declared.fault.Fault.{Fault}
+use Rattle.upd_row_store.proofs.Common.{◌≡◌, ℕ, Result, Ok, Err, refl, ap, ◌∙◌, rules, arith, IsErrAnd, Fault, NoMemory, MoreFailures, failures_after}
+use Rattle.upd_row_store.proofs.Common.{failures_with}
+use Rattle.std.proofs.Common.{IfErr}
 use Rattle.upd_text.specs.declared.fault.FaultKind.{FaultKind}
-use Rattle.upd_text.specs.declared.fault.FaultKind.TheVariants.{NoMemory, Store}
-use Rattle.upd_row_store.specs.Keeping.{IsLost, MoreFailures, OfMemory, failures_after, failures_with}
+use Rattle.upd_text.specs.declared.fault.FaultKind.TheVariants.{Store}
+use Rattle.upd_row_store.specs.Keeping.{IsLost, OfMemory}
 
 pub memory_is_lost : (e : Fault) → e ≡ record { kind = NoMemory; at = 0 } → IsLost e
 memory_is_lost e is = OfMemory e (rw is refl) (rw is refl)

@@ -1,11 +1,8 @@
 -- The order of targets is that of their keys.
-use Rattle.std.proofs.Common.{◌≡◌, ◌+◌, List, slice_index_or, refl, ap, sym, ◌∙◌}
-use Rattle.std.specs.Ordering.{is_lt, nat_cmp, ordering_then}
-use Rattle.std.specs.List.Sorted.{IsSortedBy, IsSortedByKey}
-use Rattle.std.specs.declared.cmp.Ordering.{Ordering}
-use Rattle.std.specs.declared.cmp.Ordering.TheVariants.{Less, Equal, Greater}
+use Rattle.upd_row_store.proofs.Common.{◌≡◌, ◌+◌, List, slice_index_or, refl, ap, sym, ◌∙◌, is_lt, nat_cmp, ordering_then, IsSortedBy, Ordering, Less, Equal}
+use Rattle.upd_row_store.proofs.Common.{Greater, Target}
+use Rattle.std.specs.List.Sorted.{IsSortedByKey}
 use Rattle.upd_core.specs.Order.{key_order, target_key, target_order}
-use Rattle.upd_core.specs.declared.target.Target.{Target}
 use Rattle.upd_core.specs.declared.target.Target.TheVariants.{Set, SetIn, Deck}
 
 pub then_equal : (r : Ordering) → r ≡ ordering_then r Equal

@@ -12,4 +12,5 @@ pub mod ActiveLemmas
 mod ByCardLemmas
 mod RestLemmas
 pub mod AskedLemmas
+pub mod Common
 pub mod MovableLemmas

@@ -1,12 +1,12 @@
 -- A list of cards that may move is right where it has those that the changes move by their first places, and those that they add.
-use Rattle.std.proofs.Common.{◌≡◌, ℕ, ◌==◌, nat_le, ℤ, Bool, true, false, not, List, [], ◌∷◌, map, refl, ap}
+use Rattle.upd_row_store.proofs.Common.{◌≡◌, ℕ, ◌==◌, nat_le, Bool, true, false, not, List, [], ◌∷◌, map, refl, ap, AllByRecursion, list_any, ChangeView}
+use Rattle.upd_row_store.proofs.Common.{IdentNew, IdentPurged, CardNew, CardGone, CardsMoved, EntryNew, EntriesGone, TargetNew, TargetsGone, StatusNow}
+use Rattle.upd_row_store.proofs.Common.{CountNow, done, CardRow, Rows, same_ref, AllMoveListed}
+use Rattle.std.proofs.Common.{ℤ}
 use Rattle.std.specs.Prelude.{◌&&◌, ◌||◌, if◌then◌else◌}
 use Rattle.std.specs.BTreeMap.{BTreeMap}
-use Rattle.std.specs.List.{AllByRecursion, list_any}
-use Rattle.upd_records.specs.Changes.{ChangeView, IdentNew, IdentPurged, CardNew, CardGone, CardsMoved, EntryNew, EntriesGone, TargetNew, TargetsGone, StatusNow}
-use Rattle.upd_records.specs.Changes.{CountNow, done, moved_row, shifted}
-use Rattle.upd_records.specs.Rows.{CardRow, Rows, same_ref}
-use Rattle.upd_row_store.specs.Movable.{AllMoveListed, is_listed, moves_at}
+use Rattle.upd_records.specs.Changes.{moved_row, shifted}
+use Rattle.upd_row_store.specs.Movable.{is_listed, moves_at}
 use Rattle.upd_row_store.proofs.SortLemmas.{all_joined, all_kept, weaker}
 
 module _ (movable : BTreeMap (List ℕ) ℕ) where

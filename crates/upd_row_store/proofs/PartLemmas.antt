@@ -1,25 +1,14 @@
 -- How much the decks have that aren't loaded.
-use Rattle.std.proofs.Common.{◌≡◌, ℕ, ◌+◌, ◌-◌, ◌^◌, ◌<◌, ◌≤◌, Bool, true, false, not}
-use Rattle.std.proofs.Common.{cond, if◌then◌else◌, List, [], ◌∷◌, ◌++◌, length, get_or, take, remove, slice_index_or}
-use Rattle.std.proofs.Common.{suc, refl, ap, sym, ◌∙◌, arith}
+use Rattle.upd_row_store.proofs.Common.{◌≡◌, ℕ, ◌+◌, ◌-◌, ◌^◌, ◌<◌, ◌≤◌, Bool, true, false, not, cond, if◌then◌else◌, List, [], ◌∷◌, ◌++◌, length, get_or}
+use Rattle.upd_row_store.proofs.Common.{take, remove, slice_index_or, suc, refl, ap, sym, ◌∙◌, arith, count_by, filter, flat_map, sum_by, capped, is_among}
+use Rattle.upd_row_store.proofs.Common.{CardView, DeckView, LibraryView, all_decks, ref_of, all_cards, Entry, CardRef, Ident, count_cons, same_trans, IsSame}
+use Rattle.upd_row_store.proofs.Common.{Rows, Shows, card_rows, entry_rows, rows_of, AreRowsOf, library_of, LibraryRows, cards_of_decks, entries_of_decks}
+use Rattle.upd_row_store.proofs.Common.{part_of}
 use Rattle.std.specs.Prelude.{min}
-use Rattle.std.specs.List.{count_by, filter, flat_map, sum_by}
 use Rattle.std.proofs.lemmas.List.Concat.{length-flat_map}
 use Rattle.std.proofs.lemmas.List.Elements.{filter_more}
 use Rattle.std.proofs.lemmas.List.Filters.{sum_by-filter_both}
 use Rattle.std.proofs.lemmas.List.Sums.{sum_by-append, sum_by-cons}
-use Rattle.upd_core.specs.Counts.{capped}
-use Rattle.upd_core.specs.Edits.{is_among}
-use Rattle.upd_core.specs.Library.{CardView, DeckView, LibraryView, all_decks, ref_of}
-use Rattle.upd_core.specs.Sound.{all_cards}
-use Rattle.upd_core.specs.declared.card.Entry.{Entry}
-use Rattle.upd_text.specs.declared.card_ref.CardRef.{CardRef}
-use Rattle.upd_core.specs.declared.ident.Ident.{Ident}
-use Rattle.upd_records.proofs.CountLemmas.{count_cons, same_trans}
-use Rattle.upd_records.specs.Rows.{IsSame, Rows, Shows, card_rows, entry_rows, rows_of}
-use Rattle.upd_row_store.specs.Assembling.{AreRowsOf, library_of}
-use Rattle.upd_records.specs.declared.rows.LibraryRows.{LibraryRows}
-use Rattle.upd_core.specs.Parts.{cards_of_decks, entries_of_decks, part_of}
 
 -- one more element of those that are counted, or of the others
 pub left_more : {A : Type 0} (left : A → Bool) (size : A → ℕ) (xs : List A) (i : ℕ) (d x : A) (count more : ℕ) → i < length xs → x ≡ get_or xs i d

@@ -1,15 +1,8 @@
 -- Idents by age and cards by place: the rows of a library rise by these.
-use Rattle.std.proofs.Common.{◌≡◌, ℕ, ◌+◌, ◌<◌, ◌≤◌, Bool, true, List, [], ◌∷◌, map, refl, ap, sym, ◌∙◌, subst, arith}
-use Rattle.std.proofs.lemmas.Cmp.{nat_cmp_total, on_total, then_total}
-use Rattle.std.proofs.lemmas.List.Sorted.{ranks_by}
-use Rattle.std.specs.Cmp.{IsStrictWeakOrder, nat_cmp_is}
-use Rattle.std.specs.List.{flat_map, AllByRecursion}
-use Rattle.std.specs.Ordering.{is_lt, nat_cmp, ordering_then}
-use Rattle.std.specs.declared.cmp.Ordering.TheVariants.{Less, Equal}
-use Rattle.upd_core.specs.declared.ident.Ident.{Ident}
-use Rattle.upd_core.specs.Library.{CardView, DeckView, ref_of}
-use Rattle.upd_core.specs.Sound.{AreAgedFrom, AreRising}
-use Rattle.upd_records.specs.Rows.{CardRow, card_rows}
+use Rattle.upd_row_store.proofs.Common.{◌≡◌, ℕ, ◌+◌, ◌<◌, ◌≤◌, Bool, true, List, [], ◌∷◌, map, refl, ap, sym, ◌∙◌, subst, arith, nat_cmp_total, on_total}
+use Rattle.upd_row_store.proofs.Common.{then_total, ranks_by, IsStrictWeakOrder, nat_cmp_is, flat_map, AllByRecursion, is_lt, nat_cmp, ordering_then, Less}
+use Rattle.upd_row_store.proofs.Common.{Equal, Ident, CardView, DeckView, ref_of, AreRising, CardRow, card_rows}
+use Rattle.upd_core.specs.Sound.{AreAgedFrom}
 use Rattle.upd_row_store.proofs.SortLemmas.{IsRising, all_joined, rising_joined, weaker}
 
 abbrev pub older : Ident → Ident → Bool

@@ -1,31 +1,22 @@
 -- The rows of some decks of a sound library show the part of it with these decks alone.
-use Rattle.std.proofs.Common.{◌≡◌, ℕ, zero, suc, ◌<◌, ◌≤◌, ◌==◌, Bool, true, false, not, ◌&&◌, ◌||◌, cond, List, [], ◌∷◌, ◌++◌, length, map, Some}
-use Rattle.std.proofs.Common.{refl, ap, sym, ◌∙◌, subst, arith}
+use Rattle.upd_row_store.proofs.Common.{◌≡◌, ℕ, zero, suc, ◌<◌, ◌≤◌, ◌==◌, Bool, true, false, not, ◌&&◌, ◌||◌, cond, List, [], ◌∷◌, ◌++◌, length, map, Some}
+use Rattle.upd_row_store.proofs.Common.{refl, ap, sym, ◌∙◌, subst, arith, nat_tests, filter-append, same_Some, count_by, filter, flat_map, list_any, sum_by}
+use Rattle.upd_row_store.proofs.Common.{AllByRecursion, CardRef, all_back, all_by_index, all_front, at_contained, refs_apart, Ident, is_among, CardView}
+use Rattle.upd_row_store.proofs.Common.{DeckView, LibraryView, all_decks, ref_of, part_of, AreApart, BeginsWithItsOwn, IsOfHeld, IsSound, all_cards}
+use Rattle.upd_row_store.proofs.Common.{count_cons, same_filter, same_of, same_trans, any_append, other_ref, same_ref_is, same_ref_own, CardRow, EntryRow}
+use Rattle.upd_row_store.proofs.Common.{IsSame, Rows, Shows, TargetRow, card_rows, entry_rows, rows_of, same_ref, target_rows, LibraryRows, AreRowsOf}
+use Rattle.upd_row_store.proofs.Common.{part_rows}
 use Rattle.std.specs.Prelude.{◌+◌, ◌-◌, IsTrue, slice_get}
-use Rattle.std.proofs.lemmas.Bool.Decides.{nat_tests}
 use Rattle.std.proofs.lemmas.Grind.{flat_map-append}
-use Rattle.std.proofs.lemmas.List.Elements.{filter-append}
 use Rattle.std.proofs.lemmas.List.{map-append}
-use Rattle.std.proofs.lemmas.Option.{same_Some}
-use Rattle.std.specs.List.{count_by, filter, flat_map, list_any, sum_by, AllByRecursion}
-use Rattle.upd_text.specs.declared.card_ref.CardRef.{CardRef}
-use Rattle.upd_core.proofs.ApartLemmas.{all_back, all_by_index, all_front, all_mapped, at_contained}
-use Rattle.upd_core.proofs.FoundLemmas.{place_at, refs_apart}
-use Rattle.upd_core.specs.declared.ident.Ident.{Ident}
+use Rattle.upd_core.proofs.ApartLemmas.{all_mapped}
+use Rattle.upd_core.proofs.FoundLemmas.{place_at}
 use Rattle.upd_core.specs.declared.library.Place.{Place}
 use Rattle.upd_core.specs.declared.library.Rest.{Rest}
-use Rattle.upd_core.specs.Edits.{is_among}
-use Rattle.upd_core.specs.Library.{CardView, DeckView, LibraryView, all_decks, place_of, ref_of}
-use Rattle.upd_core.specs.Parts.{part_of}
-use Rattle.upd_core.specs.Sound.{AreApart, BeginsOn, BeginsWithItsOwn, HasNoTargets, IsOfHeld, IsSound, IsWhole, all_cards, is_held_deck, key_of}
-use Rattle.upd_records.proofs.CountLemmas.{count_cons, count_map, same_filter, same_of, same_trans}
-use Rattle.upd_records.proofs.EffectLemmas.{any_append}
-use Rattle.upd_records.proofs.EqualLemmas.{other_ref, same_ref_is, same_ref_own}
-use Rattle.upd_records.specs.Rows.{CardRow, EntryRow, IsSame, Rows, Shows, TargetRow, card_rows, entry_rows, rows_of, same_ref, target_rows}
-use Rattle.upd_records.specs.declared.rows.LibraryRows.{LibraryRows}
-use Rattle.upd_row_store.specs.Assembling.{AreRowsOf}
-use Rattle.upd_row_store.specs.PartRows.{is_loaded, is_of, part_rows}
-use Rattle.upd_row_store.specs.PartRows.{AreOfDistinctCards}
+use Rattle.upd_core.specs.Library.{place_of}
+use Rattle.upd_core.specs.Sound.{BeginsOn, HasNoTargets, IsWhole, is_held_deck, key_of}
+use Rattle.upd_records.proofs.CountLemmas.{count_map}
+use Rattle.upd_row_store.specs.PartRows.{is_loaded, is_of, AreOfDistinctCards}
 use Rattle.upd_row_store.proofs.HolderLemmas.{ages_above, ages_rising, and_false, any_same}
 use Rattle.upd_row_store.proofs.PartLemmas.{cards_in_rows, entries_in_rows, rest_counted, same_length}
 use Rattle.upd_row_store.proofs.PlaceLemmas.{stand_in}

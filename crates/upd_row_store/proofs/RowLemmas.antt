@@ -1,24 +1,14 @@
 -- Rows by card: their order, and the rows of one card among them.
-use Rattle.std.proofs.Common.{◌≡◌, ℕ, ◌+◌, ◌-◌, ◌<◌, ◌≤◌, Bool, true, false, cond, List, [], ◌∷◌, ◌++◌, length, map, take, drop}
-use Rattle.std.proofs.Common.{append-nil, refl, ap, sym, ◌∙◌, subst, arith}
-use Rattle.std.proofs.lemmas.Cmp.{nat_cmp_total, nat_list_cmp_total, on_total, then_total}
-use Rattle.std.proofs.lemmas.List.{length-drop, take_all}
-use Rattle.std.proofs.lemmas.List.Elements.{filter-append}
-use Rattle.std.proofs.lemmas.List.Sorted.{ranks_by, searchable_from_sorted}
-use Rattle.std.specs.Cmp.{IsTotalOrder, IsStrictWeakOrder, nat_cmp_is, tied_itself}
-use Rattle.std.specs.List.{filter, flat_map, AllByRecursion}
-use Rattle.std.specs.List.Sorted.{IsSortedBy, IsPartitionPoint, IsPartitionedBy}
-use Rattle.std.specs.Ordering.{is_eq, is_le, is_lt, nat_cmp, ordering_index, ordering_reverse, ordering_then}
-use Rattle.std.specs.declared.cmp.Ordering.{Ordering}
-use Rattle.std.specs.declared.cmp.Ordering.TheVariants.{Less, Equal, Greater}
-use Rattle.upd_text.proofs.OrderLemmas.{is_same-is_eq}
-use Rattle.upd_text.specs.Order.{card_order}
-use Rattle.upd_text.specs.declared.card_ref.CardRef.{CardRef}
-use Rattle.upd_core.specs.declared.card.Entry.{Entry}
-use Rattle.upd_core.specs.declared.target.Target.{Target}
-use Rattle.upd_core.specs.Sound.{AreApart}
-use Rattle.upd_records.proofs.EqualLemmas.{other_ref, same_ref_own}
-use Rattle.upd_records.specs.Rows.{EntryRow, TargetRow, entry_rows, same_ref, target_rows}
+use Rattle.upd_row_store.proofs.Common.{◌≡◌, ℕ, ◌+◌, ◌-◌, ◌<◌, ◌≤◌, Bool, true, false, cond, List, [], ◌∷◌, ◌++◌, length, map, take, drop, append-nil, refl}
+use Rattle.upd_row_store.proofs.Common.{ap, sym, ◌∙◌, subst, arith, nat_cmp_total, nat_list_cmp_total, on_total, then_total, take_all, filter-append}
+use Rattle.upd_row_store.proofs.Common.{ranks_by, IsTotalOrder, IsStrictWeakOrder, nat_cmp_is, filter, flat_map, AllByRecursion, IsSortedBy, IsPartitionPoint}
+use Rattle.upd_row_store.proofs.Common.{IsPartitionedBy, is_eq, is_le, is_lt, nat_cmp, ordering_then, Ordering, Less, Equal, Greater, is_same-is_eq}
+use Rattle.upd_row_store.proofs.Common.{card_order, CardRef, Entry, Target, AreApart, other_ref, same_ref_own, EntryRow, TargetRow, entry_rows, same_ref}
+use Rattle.upd_row_store.proofs.Common.{target_rows}
+use Rattle.std.proofs.lemmas.List.{length-drop}
+use Rattle.std.proofs.lemmas.List.Sorted.{searchable_from_sorted}
+use Rattle.std.specs.Cmp.{tied_itself}
+use Rattle.std.specs.Ordering.{ordering_index, ordering_reverse}
 use Rattle.upd_row_store.proofs.SortLemmas.{IsRising, found_between, parted_behind}
 
 -- ---- the order of references

@@ -1,12 +1,9 @@
 -- Lists in order: which list of the same elements there is, and where a search by halves ends in one.
-use Rattle.std.proofs.Common.{◌≡◌, ℕ, zero, suc, ◌<◌, ◌≤◌, Bool, true, false, cond, List, [], ◌∷◌, ◌++◌, length, take, drop, get_or}
-use Rattle.std.proofs.Common.{refl, ap, sym, ◌∙◌, subst, arith, IsPermutation}
+use Rattle.upd_row_store.proofs.Common.{◌≡◌, ℕ, zero, suc, ◌<◌, ◌≤◌, Bool, true, false, cond, List, [], ◌∷◌, ◌++◌, length, take, drop, get_or, refl, ap, sym}
+use Rattle.upd_row_store.proofs.Common.{◌∙◌, subst, arith, IsStrictWeakOrder, count_by, filter, AllByRecursion, IsSortedBy, IsPartitionPoint, IsPartitionedBy}
+use Rattle.upd_row_store.proofs.Common.{count_cons, IsSame}
+use Rattle.std.proofs.Common.{IsPermutation}
 use Rattle.std.proofs.lemmas.List.Sorted.{sum_by-IsPermutation, sorted_far}
-use Rattle.std.specs.Cmp.{IsStrictWeakOrder}
-use Rattle.std.specs.List.{count_by, filter, AllByRecursion}
-use Rattle.std.specs.List.Sorted.{IsSortedBy, IsPartitionPoint, IsPartitionedBy}
-use Rattle.upd_records.proofs.CountLemmas.{count_cons}
-use Rattle.upd_records.specs.Rows.{IsSame}
 
 -- ---- the same elements in order
 

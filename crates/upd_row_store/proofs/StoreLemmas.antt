@@ -1,14 +1,10 @@
 -- What a store keeps, and what a crash leaves of it, over several calls.
-use Rattle.std.proofs.Common.{◌≡◌, ℕ, ◌≤◌, ◌⊎◌, Result, Ok, Err, OnErr, OnOk, inl, inr, refl, sym, ap, ◌∙◌, subst, rules, arith}
-use Rattle.std.specs.Result.{IsErrAnd}
-use Rattle.upd_text.specs.declared.fault.Fault.{Fault}
-use Rattle.upd_text.specs.declared.fault.FaultKind.TheVariants.{NoMemory}
+use Rattle.upd_row_store.proofs.Common.{◌≡◌, ℕ, ◌≤◌, Result, Ok, Err, refl, sym, ap, ◌∙◌, subst, rules, arith, IsErrAnd, Fault, NoMemory, LibraryView, Rows}
+use Rattle.upd_row_store.proofs.Common.{MoreFailures, failures_after, failures_with}
+use Rattle.std.proofs.Common.{◌⊎◌, OnErr, OnOk, inl, inr}
 use Rattle.upd_text.specs.Faults.{fault_at}
-use Rattle.upd_core.specs.Library.{LibraryView}
-use Rattle.upd_records.specs.Rows.{Rows}
 use Rattle.upd_row_store.specs.declared.meaning.Meaning.{Ghosts}
-use Rattle.upd_row_store.specs.Keeping.{IsLater, Keeps, LeavesLoad, LeavesRead, LeavesWrite, MoreFailures, Tries}
-use Rattle.upd_row_store.specs.Keeping.{failures_after, failures_with, reads_after}
+use Rattle.upd_row_store.specs.Keeping.{IsLater, Keeps, LeavesLoad, LeavesRead, LeavesWrite, Tries, reads_after}
 use Rattle.upd_row_store.proofs.KeepingLemmas.{lost_for_memory}
 
 -- out of memory counts none, and is no answer

@@ -1,18 +1,16 @@
 -- What tables keep, and what they show, after one more commit and after a settlement.
-use Rattle.std.proofs.Common.{◌≡◌, ℕ, ◌≤◌, ◌==◌, nat_le, max, Bool, true, false, not, ◌&&◌, if◌then◌else◌, List, [], ◌∷◌, ◌++◌, Option, Some}
-use Rattle.std.proofs.Common.{None, refl, ap, sym, ◌∙◌, rules, arith}
-use Rattle.std.specs.Option.{option_or, option_map_or}
-use Rattle.std.specs.List.{find, filter}
-use Rattle.std.specs.Str.{bytes_eq}
+use Rattle.upd_row_store.proofs.Common.{◌≡◌, ℕ, ◌≤◌, ◌==◌, nat_le, Bool, true, false, not, ◌&&◌, if◌then◌else◌, List, [], ◌∷◌, ◌++◌, Option, Some, None, refl}
+use Rattle.upd_row_store.proofs.Common.{ap, sym, ◌∙◌, rules, arith, option_map_or, filter, bytes_eq, nat_tests, bytes_eq-Decides, LibraryView, Rows, Shows}
+use Rattle.upd_row_store.proofs.Common.{ShowsStates, ChangeView, IdentNew, IdentPurged, CardNew, CardGone, CardsMoved, EntryNew, EntriesGone, TargetNew}
+use Rattle.upd_row_store.proofs.Common.{TargetsGone, StatusNow, CountNow, done, committed}
+use Rattle.std.proofs.Common.{max}
+use Rattle.std.specs.Option.{option_or}
+use Rattle.std.specs.List.{find}
 use Rattle.std.proofs.Math.Nat.{max-eq_left, max-eq_right}
-use Rattle.std.proofs.lemmas.Bool.Decides.{nat_tests}
 use Rattle.std.proofs.lemmas.List.Folds.{find-append}
-use Rattle.std.proofs.lemmas.Slice.Eq.{bytes_eq-Decides}
-use Rattle.upd_core.specs.Library.{LibraryView}
-use Rattle.upd_records.specs.Rows.{RunView, MarkRow, Rows, Shows, ShowsStates}
-use Rattle.upd_records.specs.Changes.{ChangeView, IdentNew, IdentPurged, CardNew, CardGone, CardsMoved, EntryNew, EntriesGone, TargetNew, TargetsGone}
-use Rattle.upd_records.specs.Changes.{StatusNow, CountNow, done, done_all}
-use Rattle.upd_row_store.specs.Tables.{is_run, run_at, is_mark_of, mark_at, committed, is_settled, settled_to}
+use Rattle.upd_records.specs.Rows.{RunView, MarkRow}
+use Rattle.upd_records.specs.Changes.{done_all}
+use Rattle.upd_row_store.specs.Tables.{is_run, run_at, is_mark_of, mark_at, is_settled, settled_to}
 
 -- ---- tests of texts
 

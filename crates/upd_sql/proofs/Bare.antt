@@ -1,11 +1,10 @@
 -- Terms that don't read the rowid.
-use Rattle.std.proofs.Common.{◌≡◌, ℕ, zero, suc, Bool, true, false, ◌&&◌, if◌then◌else◌, List, [], ◌∷◌, drop, refl, ap, ap₂, ◌∙◌}
-use Rattle.std.specs.List.{list_all}
-use Rattle.std.proofs.lemmas.Bool.{and_parts}
-use Rattle.sqlite_value.specs.declared.value.Value.TheVariants.{Null}
-use Rattle.sqlite_value.specs.Order.{Row, column}
+use Rattle.upd_sql.proofs.Common.{◌≡◌, ℕ, Bool, true, false, ◌&&◌, if◌then◌else◌, List, [], ◌∷◌, refl, ap, ap₂, ◌∙◌, list_all, and_parts, Null, Row, Term}
+use Rattle.upd_sql.proofs.Common.{lit, col, op2, eval_all, holds}
+use Rattle.std.proofs.Common.{zero, suc, drop}
+use Rattle.sqlite_value.specs.Order.{column}
 use Rattle.sqlite_sql.specs.Ops.{unary, binary, is_true}
-use Rattle.sqlite_sql.specs.Term.{Term, lit, col, op1, op2, case, eval, eval_all, holds}
+use Rattle.sqlite_sql.specs.Term.{op1, case, eval}
 
 abbrev pub is_bare : Term → Bool
 is_bare (lit v) = true

@@ -1,13 +1,8 @@
 -- The columns take the rows of records as they are.
-use Rattle.std.proofs.Common.{◌≡◌, pos, if◌then◌else◌, refl}
-use Rattle.sqlite_rules.specs.Cast.{cast_all}
-use Rattle.upd_core.specs.declared.ident.Ident.{Ident}
-use Rattle.upd_core.specs.declared.target.Target.{Target}
-use Rattle.upd_core.specs.declared.target.Target.TheVariants.{Set, SetIn, Deck}
-use Rattle.upd_records.specs.Rows.{CardRow, EntryRow, TargetRow, RunView, StateRow, CountRow, MarkRow}
-use Rattle.upd_sqlite.proofs.Shapes.{cast_int}
-use Rattle.upd_sql.specs.Schema.{ident_columns, card_columns, entry_columns, target_columns, run_columns, state_columns, count_columns, mark_columns}
-use Rattle.upd_sql.specs.Encoded.{kind_code, ident_row, card_row, entry_row, target_row, run_row, state_row, count_row, mark_row}
+use Rattle.upd_sql.proofs.Common.{◌≡◌, pos, if◌then◌else◌, refl, cast_all, Ident, Target, Set, SetIn, Deck, CardRow, EntryRow, TargetRow, RunView, StateRow}
+use Rattle.upd_sql.proofs.Common.{CountRow, MarkRow, cast_int, ident_columns, card_columns, entry_columns, target_columns, run_columns, state_columns}
+use Rattle.upd_sql.proofs.Common.{count_columns, mark_columns, ident_row, card_row, entry_row, target_row, run_row, state_row, count_row, mark_row}
+use Rattle.upd_sql.specs.Encoded.{kind_code}
 
 pub cast_ident : (r : Ident) → cast_all ident_columns (ident_row r) ≡ ident_row r
 cast_ident r = rw (

@@ -1,24 +1,19 @@
 -- From the steps of a transaction and its commit to what the whole of it does.
-use Rattle.std.proofs.Common.{◌≡◌, Ok, refl, sym, ap, subst, ◌∙◌, IsTrue, true}
-use Rattle.sqlite.specs.State.{State, HasCleanDisk, Survives}
+use Rattle.upd_sql.proofs.Common.{◌≡◌, Ok, refl, sym, ap, subst, ◌∙◌, IsTrue, true, State, HasCleanDisk, Survives, Rows, Database, Makes, Steps, clean_before}
+use Rattle.upd_sql.proofs.Common.{showing, library_schema, no_schema, no_rows, HasEmptyTables, Transforms, MayMake, stored, HoldsTables, WasOpen, MayCommit}
+use Rattle.upd_sql.proofs.Common.{MayKeep}
 use Rattle.sqlite.proofs.StateLemmas.{survives_then}
-use Rattle.upd_records.specs.Rows.{Rows}
 use Rattle.upd_sqlite.specs.Rising.{TablesRise}
-use Rattle.sqlite.specs.Effect.{Database}
-use Rattle.upd_sqlite.specs.Steps.{Makes, Steps}
-use Rattle.upd_sqlite.proofs.Chains.{clean_before}
-use Rattle.upd_sqlite.proofs.Frames.{held, showing}
-use Rattle.upd_sql.specs.Schema.{library_schema, no_schema}
-use Rattle.upd_sql.specs.Making.{no_rows, HasEmptyTables, Transforms, MayMake}
-use Rattle.upd_sql.specs.Encoded.{stored}
-use Rattle.upd_sql.specs.LibraryTables.{HoldsTables, ShowsTables}
-use Rattle.upd_sql.specs.Commits.{ShowsIn, WasOpen, MayCommit, MayKeep, LeavesTables}
+use Rattle.upd_sqlite.proofs.Frames.{held}
+use Rattle.upd_sql.specs.LibraryTables.{ShowsTables}
+use Rattle.upd_sql.specs.Commits.{ShowsIn, LeavesTables}
 
 module _ (F : Rows → Type 0) (f : Rows → Rows) (old last end : State) {X : Type 0} (x : X) (rise : IsTrue old.is_open → TablesRise old.now)
     (settled : IsTrue old.is_open → old.now ≡ old.committed)
     (m : Makes {X = X} HoldsTables F f (record old { in_transaction = true }) last (Ok x)) where
   transformed : HasCleanDisk last → IsTrue old.is_open → (it : Rows) → ShowsTables it old.committed → F it → HoldsTables (f it) last.now
-  transformed clean o it shown fits = m.made clean refl it fits (held library_schema (stored it) old.now (rise o) (subst (ShowsTables it) (sym (settled o)) shown))
+  transformed clean o it shown fits =
+      m.made clean refl it fits (held library_schema (stored it) old.now (rise o) (subst (ShowsTables it) (sym (settled o)) shown))
 
   pub crash_leaves : (HasCleanDisk last → IsTrue old.is_open) → Survives last end (λ db. db ≡ last.now.trees)
       → Survives (record old { in_transaction = true }) end (MayCommit F f old)
@@ -26,8 +21,11 @@ module _ (F : Rows → Type 0) (f : Rows → Rows) (old last end : State) {X : T
       survives_then (record old { in_transaction = true }) last end (λ _. ⊥) (λ db. db ≡ last.now.trees) (MayCommit F f old) (λ _ db none. absurd none)
       (λ clean db is.
       let early = clean_before last end _ s clean in
-      let o = opened early in
-      (o, λ it shown fits. subst (λ t. ShowsIn t (f it)) (sym is) (showing library_schema (stored (f it)) last.now (transformed early o it shown fits)).rows_are))
+      let o = opened early in (
+        o,
+        λ it shown fits. subst (λ t. ShowsIn t (f it)) (sym is)
+            (showing library_schema (stored (f it)) last.now (transformed early o it shown fits)).rows_are,
+      ))
       m.steps.survives s
 
 module _ (old last end : State) {X : Type 0} (x : X) (settled : IsTrue old.is_open → old.now ≡ old.committed)

@@ -1,18 +1,10 @@
 -- What the tests of the texts say of the rows of records.
-use Rattle.std.proofs.Common.{◌≡◌, ℕ, ◌==◌, nat_eq, Bool, ◌&&◌, List, [], ◌∷◌, refl, ap₂, ◌∙◌, arith, bytes_eq}
-use Rattle.std.specs.List.{list_all}
-use Rattle.std.proofs.lemmas.Bool.Decides.{nat_tests}
-use Rattle.sqlite_value.specs.declared.value.Value.TheVariants.{Null, Text}
-use Rattle.sqlite_value.specs.Order.{Row}
-use Rattle.sqlite_sql.specs.Term.{Term, holds}
-use Rattle.upd_text.specs.declared.card_ref.CardRef.{CardRef}
-use Rattle.upd_core.specs.declared.target.Target.{Target}
-use Rattle.upd_core.specs.declared.target.Target.TheVariants.{Set, SetIn, Deck}
-use Rattle.upd_core.specs.Targets.{is_same}
-use Rattle.upd_records.specs.Rows.{CardRow, EntryRow, TargetRow, RunView, StateRow, CountRow, MarkRow, same_ref}
-use Rattle.upd_row_store.specs.Tables.{is_run, is_settled, is_mark_of}
-use Rattle.upd_sqlite.proofs.Tests.{eq_text, eq_nat, le_nat, one_test, two_tests, three_tests}
-use Rattle.upd_sql.specs.Encoded.{num, target_code, card_row, entry_row, target_row, run_row, state_row, count_row, mark_row}
+use Rattle.upd_sql.proofs.Common.{◌≡◌, ℕ, ◌==◌, Bool, ◌&&◌, List, [], ◌∷◌, refl, ap₂, ◌∙◌, arith, bytes_eq, list_all, nat_tests, Null, Text, Row, Term, holds}
+use Rattle.upd_sql.proofs.Common.{CardRef, Target, Set, SetIn, Deck, is_same, CardRow, EntryRow, TargetRow, RunView, StateRow, CountRow, MarkRow, same_ref}
+use Rattle.upd_sql.proofs.Common.{is_run, is_settled, is_mark_of, eq_text, eq_nat, one_test, two_tests, three_tests, num, target_code, card_row, entry_row}
+use Rattle.upd_sql.proofs.Common.{target_row, run_row, state_row, count_row, mark_row}
+use Rattle.std.proofs.Common.{nat_eq}
+use Rattle.upd_sqlite.proofs.Tests.{le_nat}
 use Rattle.upd_sql.proofs.WriteTexts.{card_tests, delete_count_tests, delete_runs_tests, first_tests}
 use Rattle.upd_sql.proofs.ReadTexts.{run_of_key_tests, mark_of_site_tests}
 

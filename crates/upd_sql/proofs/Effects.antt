@@ -1,30 +1,19 @@
 -- What each text that writes makes of the tables.
-use Rattle.std.proofs.Common.{◌≡◌, ℕ, ◌+◌, ◌-◌, ◌<◌, ◌≤◌, ◌^◌, ◌==◌, nat_le, pos, negsuc, Bool, true, false, not, ◌&&◌, if◌then◌else◌, List, [], ◌∷◌, ◌++◌}
-use Rattle.std.proofs.Common.{map, filter, codes, Ok, refl, sym, ap, ap₂, ◌∙◌, arith, IsTrue, length, ◌/◌, bytes_eq}
-use Rattle.std.specs.List.{AllByRecursion}
-use Rattle.sqlite_value.specs.declared.value.Value.TheVariants.{Null, Text}
-use Rattle.sqlite_value.specs.Order.{Row}
-use Rattle.sqlite_sql.specs.Term.{lit, col, eval_all}
-use Rattle.sqlite.specs.Effect.{value_rows}
-use Rattle.sqlite.specs.State.{State, Executes}
-use Rattle.upd_text.specs.declared.card_ref.CardRef.{CardRef}
-use Rattle.upd_core.specs.declared.ident.Ident.{Ident}
-use Rattle.upd_core.specs.declared.target.Target.{Target}
-use Rattle.upd_core.specs.declared.target.Target.TheVariants.{Set, SetIn, Deck}
-use Rattle.upd_core.specs.Targets.{is_same}
-use Rattle.upd_records.specs.Rows.{CardRow, EntryRow, TargetRow, RunView, StateRow, CountRow, MarkRow, Rows, same_ref}
-use Rattle.upd_row_store.specs.Tables.{is_settled, is_mark_of}
-use Rattle.upd_sql.specs.Schema.{ident_columns, card_columns, entry_columns, target_columns, run_columns, state_columns, count_columns, mark_columns}
-use Rattle.upd_sql.specs.Encoded.{num, target_code, ident_row, card_row, entry_row, target_row, run_row, state_row, count_row, mark_row, stored}
-use Rattle.upd_sql.specs.LibraryTables.{HoldsTables}
+use Rattle.upd_sql.proofs.Common.{◌≡◌, ℕ, ◌+◌, ◌-◌, ◌<◌, ◌^◌, ◌==◌, nat_le, pos, negsuc, Bool, true, false, not, ◌&&◌, if◌then◌else◌, List, [], ◌∷◌, ◌++◌}
+use Rattle.upd_sql.proofs.Common.{map, filter, codes, Ok, refl, sym, ap, ap₂, ◌∙◌, arith, IsTrue, length, ◌/◌, bytes_eq, AllByRecursion, Null, Text, Row, lit}
+use Rattle.upd_sql.proofs.Common.{col, eval_all, value_rows, State, Executes, CardRef, Ident, Target, Set, SetIn, Deck, is_same, CardRow, EntryRow, TargetRow}
+use Rattle.upd_sql.proofs.Common.{RunView, StateRow, CountRow, MarkRow, Rows, same_ref, is_settled, is_mark_of, ident_columns, card_columns, entry_columns}
+use Rattle.upd_sql.proofs.Common.{target_columns, run_columns, state_columns, count_columns, mark_columns, num, target_code, ident_row, card_row, entry_row}
+use Rattle.upd_sql.proofs.Common.{target_row, run_row, state_row, count_row, mark_row, stored, HoldsTables, all_weaker, cast_all, moved_row, restated}
+use Rattle.upd_sql.proofs.Common.{status_rows, eq_nat, eq_text, one_test, two_tests, three_tests, covers, with_moved}
+use Rattle.std.proofs.Common.{◌≤◌}
 use Rattle.upd_sql.proofs.Typed.{adds, removes, changes, changes_counted}
 use Rattle.upd_sql.proofs.Casts.{cast_ident, cast_card, cast_entry, cast_target, cast_run, cast_state, cast_count, cast_mark}
-use Rattle.sqlite_keyed.proofs.ListLemmas.{all_of, all_weaker}
-use Rattle.sqlite_rules.specs.Cast.{cast_all}
-use Rattle.upd_records.specs.Changes.{purged_row, moved_row, restated, status_rows}
-use Rattle.upd_sqlite.proofs.Tests.{eq_nat, eq_text, ge_nat, add_nat, sub_nat, one_test, two_tests, three_tests}
-use Rattle.upd_sql.specs.RowEdits.{covers, with_moved}
-use Rattle.upd_sql.proofs.Conditions.{bytes_flip, passes, card_params, card_named, entry_named, target_named, state_named, state_told, count_named, mark_named, run_settled}
+use Rattle.sqlite_keyed.proofs.ListLemmas.{all_of}
+use Rattle.upd_records.specs.Changes.{purged_row}
+use Rattle.upd_sqlite.proofs.Tests.{ge_nat, add_nat, sub_nat}
+use Rattle.upd_sql.proofs.Conditions.{bytes_flip, passes, card_params, card_named, entry_named, target_named, state_named, state_told, count_named}
+use Rattle.upd_sql.proofs.Conditions.{mark_named, run_settled}
 use Rattle.upd_sql.proofs.WriteTexts as text
 
 module _ (old new : State) (count : ℕ) (it : Rows) (h : HoldsTables it old.now) where
@@ -40,7 +29,8 @@ module _ (old new : State) (count : ℕ) (it : Rows) (h : HoldsTables it old.now
       old new count ran h (lit Null ∷ col 0 0 ∷ col 0 1 ∷ col 0 2 ∷ col 0 3 ∷ col 0 4 ∷ []) 6 text.insert_card_does.is r refl
       (cast_card r)
 
-  pub entry_added : (r : EntryRow) → Executes text.insert_entry (entry_row r) old new (Ok count) → HoldsTables (record it { entries = it.entries ++ r ∷ [] }) new.now
+  pub entry_added : (r : EntryRow) → Executes text.insert_entry (entry_row r) old new (Ok count)
+      → HoldsTables (record it { entries = it.entries ++ r ∷ [] }) new.now
   entry_added r ran = adds 3 6 (codes "entries") entry_columns (1 ∷ 2 ∷ 3 ∷ []) refl refl (λ _ _. refl) entry_row
       (stored it) it.entries refl text.insert_entry (entry_row r) text.insert_entry_does.plain old new count ran h
       (lit Null ∷ col 0 0 ∷ col 0 1 ∷ col 0 2 ∷ col 0 3 ∷ col 0 4 ∷ []) 6 text.insert_entry_does.is r refl (cast_entry r)
@@ -64,12 +54,14 @@ module _ (old new : State) (count : ℕ) (it : Rows) (h : HoldsTables it old.now
       old new count ran h (lit Null ∷ col 0 0 ∷ col 0 1 ∷ col 0 2 ∷ col 0 3 ∷ col 0 4 ∷ col 0 5 ∷ []) 7 text.insert_run_does.is
       r refl (cast_run r)
 
-  pub state_added : (r : StateRow) → Executes text.insert_state (state_row r) old new (Ok count) → HoldsTables (record it { states = it.states ++ r ∷ [] }) new.now
+  pub state_added : (r : StateRow) → Executes text.insert_state (state_row r) old new (Ok count)
+      → HoldsTables (record it { states = it.states ++ r ∷ [] }) new.now
   state_added r ran = adds 6 12 (codes "states") state_columns (1 ∷ 2 ∷ []) refl refl (λ _ _. refl) state_row (stored it) it.states refl text.insert_state
       (state_row r) text.insert_state_does.plain
       old new count ran h (lit Null ∷ col 0 0 ∷ col 0 1 ∷ col 0 2 ∷ []) 4 text.insert_state_does.is r refl (cast_state r)
 
-  pub count_added : (r : CountRow) → Executes text.insert_count (count_row r) old new (Ok count) → HoldsTables (record it { counts = it.counts ++ r ∷ [] }) new.now
+  pub count_added : (r : CountRow) → Executes text.insert_count (count_row r) old new (Ok count)
+      → HoldsTables (record it { counts = it.counts ++ r ∷ [] }) new.now
   count_added r ran = adds 7 14 (codes "counts") count_columns (1 ∷ 2 ∷ 3 ∷ []) refl refl (λ _ _. refl) count_row
       (stored it) it.counts refl text.insert_count (count_row r) text.insert_count_does.plain old new count ran h
       (lit Null ∷ col 0 0 ∷ col 0 1 ∷ col 0 2 ∷ col 0 3 ∷ []) 5 text.insert_count_does.is r (source r.target) (cast_count r)
@@ -80,7 +72,8 @@ module _ (old new : State) (count : ℕ) (it : Rows) (h : HoldsTables it old.now
       source (SetIn z d) = refl
       source (Deck d) = refl
 
-  pub mark_added : (r : MarkRow) → Executes text.insert_mark (mark_row r) old new (Ok count) → HoldsTables (record it { settled = it.settled ++ r ∷ [] }) new.now
+  pub mark_added : (r : MarkRow) → Executes text.insert_mark (mark_row r) old new (Ok count)
+      → HoldsTables (record it { settled = it.settled ++ r ∷ [] }) new.now
   mark_added r ran = adds 8 16 (codes "settled") mark_columns (1 ∷ []) refl refl (λ _ _. refl) mark_row (stored it) it.settled refl text.insert_mark
       (mark_row r) text.insert_mark_does.plain old new count ran h (lit Null ∷ col 0 0 ∷ col 0 1 ∷ []) 3 text.insert_mark_does.is r refl (cast_mark r)
 
@@ -228,16 +221,19 @@ module _ (old new : State) (count : ℕ) (it : Rows) (h : HoldsTables it old.now
       params : Row
       params = Text e.0 ∷ num e.1 ∷ num deck ∷ num from ∷ num by ∷ []
 
-      sums : (r : CardRow) → r.pos + by < 2 ^ 32 → eval_all text.move_back_of_news (params ∷ (Null ∷ card_row r) ∷ []) ≡ card_row (record r { pos = r.pos + by })
+      sums : (r : CardRow) → r.pos + by < 2 ^ 32 → eval_all text.move_back_of_news (params ∷ (Null ∷ card_row r) ∷ [])
+          ≡ card_row (record r { pos = r.pos + by })
       sums r low = ap (λ v. Text r.card.name ∷ num r.card.number ∷ num r.deck ∷ v ∷ Text r.body ∷ []) (add_nat r.pos by (omega arith))
 
       each : (r : CardRow) → (IsTrue (covers e r.card) → IsTrue ((r.deck == deck) && nat_le from r.pos) → r.pos + by < 2 ^ 32)
-          → (if passes params text.move_back_of_tests (card_row r) then cast_all card_columns (eval_all text.move_back_of_news (params ∷ (Null ∷ card_row r) ∷ []))
+          → (if passes params text.move_back_of_tests (card_row r) then cast_all card_columns
+          (eval_all text.move_back_of_news (params ∷ (Null ∷ card_row r) ∷ []))
           else card_row r) ≡ card_row (if covers e r.card then moved_row deck from (pos by) r else r)
       each r fits = rw (holds_of e deck from by r) (by_ident (covers e r.card) refl)
         where
           by_ident : (a : Bool) → covers e r.card ≡ a
-              → (if a && ((r.deck == deck) && nat_le from r.pos) then cast_all card_columns (eval_all text.move_back_of_news (params ∷ (Null ∷ card_row r) ∷ []))
+              → (if a && ((r.deck == deck) && nat_le from r.pos) then cast_all card_columns
+              (eval_all text.move_back_of_news (params ∷ (Null ∷ card_row r) ∷ []))
               else card_row r) ≡ card_row (if a then moved_row deck from (pos by) r else r)
           by_ident true is = moves_to deck from (λ p. p + by) (λ v. eval_all text.move_back_of_news (params ∷ (Null ∷ v) ∷ [])) r
               (λ there. sums r (fits is there)) _ refl

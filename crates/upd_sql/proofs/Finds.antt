@@ -1,20 +1,11 @@
 -- What each text that reads answers.
-use Rattle.std.proofs.Common.{◌≡◌, ℕ, List, [], ◌∷◌, map, filter, refl, sym, ap, subst, ◌∙◌, Result, Ok, Err, IfOk, OnOk, slice_get}
-use Rattle.sqlite_value.specs.declared.value.Value.TheVariants.{Text}
-use Rattle.sqlite_value.specs.Order.{Row}
+use Rattle.upd_sql.proofs.Common.{◌≡◌, ℕ, List, [], ◌∷◌, map, filter, refl, sym, ap, subst, ◌∙◌, Result, Ok, Err, IfOk, OnOk, slice_get, Text, Row}
+use Rattle.upd_sql.proofs.Common.{State, Shown, IsPlain, Rows, MarkRow, RunView, option_map_or, Error, is_run, is_mark_of, mark_at, run_at}
 use Rattle.sqlite.specs.Listing.{understood}
-use Rattle.sqlite.specs.State.{State, Shown}
-use Rattle.sqlite.proofs.Callers.{IsPlain}
-use Rattle.upd_records.specs.Rows.{Rows, MarkRow, RunView}
-use Rattle.std.specs.Option.{option_map_or}
+use Rattle.upd_sql.proofs.Common.{library_schema, num, run_row, mark_row, stored, HoldsTables}
 use Rattle.sqlite_keyed.proofs.ListLemmas.{slice_get-filter}
-use Rattle.sqlite.specs.declared.error.Error.{Error}
 use Rattle.upd_sql.specs.First.{first_mark, first_run}
-use Rattle.upd_row_store.specs.Tables.{is_run, is_mark_of, mark_at, run_at}
 use Rattle.upd_sqlite.proofs.Answers.{shown_same}
-use Rattle.upd_sql.specs.Schema.{library_schema}
-use Rattle.upd_sql.specs.Encoded.{num, run_row, mark_row, stored}
-use Rattle.upd_sql.specs.LibraryTables.{HoldsTables}
 use Rattle.upd_sql.proofs.Typed.{reads_exactly}
 use Rattle.upd_sql.proofs.Conditions.{run_found, mark_found}
 use Rattle.upd_sql.proofs.ReadTexts.{two, six, run_of_key, run_of_key_tests, mark_of_site, mark_of_site_tests}

@@ -12,6 +12,7 @@ pub mod SchemaLemmas
 pub mod WholeLemmas
 pub mod Turns
 pub mod CommitLemmas
+pub mod Common
 pub mod MarkLemmas
 pub mod MovingLemmas
 pub mod ToldLemmas

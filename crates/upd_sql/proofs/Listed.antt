@@ -1,25 +1,15 @@
 -- What a query returns of records that are stored as rows: the rows of those that pass, in an order that ORDER BY allows.
-use Rattle.std.proofs.Common.{◌≡◌, ℕ, ◌+◌, ◌<◌, Bool, true, List, [], ◌∷◌, map, filter, length, refl, sym, ap, ap₂, subst, ◌∙◌, arith}
+use Rattle.upd_sql.proofs.Common.{◌≡◌, ℕ, ◌+◌, ◌<◌, Bool, true, List, [], ◌∷◌, map, filter, length, refl, sym, ap, ap₂, subst, ◌∙◌, arith, list_all}
+use Rattle.upd_sql.proofs.Common.{get_or-map, length-map, Key, Null, Row, sort_cmp, Term, eval_all, holds, map-map, filter-map, filter_same, State, Shown}
+use Rattle.upd_sql.proofs.Common.{reads_as, HoldsAllRows, rows_at, is_lone, showing, library_schema, AreInOrder}
 use Rattle.std.proofs.Common.{IsPermutation, IsSorted}
-use Rattle.std.specs.List.{list_all}
 use Rattle.std.specs.Ordering.{is_lt, on}
 use Rattle.std.specs.declared.cmp.Ordering.{Ordering}
-use Rattle.std.proofs.lemmas.List.{get_or-map, length-map}
-use Rattle.sqlite_value.specs.declared.keys.Key.{Key}
-use Rattle.sqlite_value.specs.declared.value.Value.TheVariants.{Null}
-use Rattle.sqlite_value.specs.Order.{Row}
-use Rattle.sqlite_sql.specs.Query.{Output, key_cmp, sort_cmp}
-use Rattle.sqlite_sql.specs.Term.{Term, eval_all, holds}
-use Rattle.sqlite_keyed.proofs.ListLemmas.{along_permutation, map-map, filter-map, filter_same, map_same}
-use Rattle.sqlite.specs.State.{State, Shown}
-use Rattle.sqlite.proofs.Callers.{reads_as}
+use Rattle.sqlite_sql.specs.Query.{Output, key_cmp}
+use Rattle.sqlite_keyed.proofs.ListLemmas.{along_permutation, map_same}
 use Rattle.upd_records.specs.Rows.{IsSame}
 use Rattle.upd_records.proofs.CountLemmas.{count_cons, same_of, same_trans, same_append}
-use Rattle.upd_sqlite.specs.Stored.{HoldsAllRows, rows_at}
-use Rattle.upd_sqlite.proofs.Frames.{is_lone, showing}
 use Rattle.upd_sqlite.proofs.Shapes.{selects}
-use Rattle.upd_sql.specs.Schema.{library_schema}
-use Rattle.upd_sql.specs.Listed.{AreInOrder}
 use Rattle.upd_sql.proofs.Bare.{is_bare, bare_tests, bare_values}
 use Rattle.upd_sql.proofs.ReadTexts.{Reads}
 use Rattle.upd_sql.proofs.Typed.{own}

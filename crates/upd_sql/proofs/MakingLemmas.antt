@@ -1,24 +1,17 @@
 -- The texts that make the tables, in turn.
-use Rattle.std.proofs.Common.{ℕ, ◌+◌, pos, List, [], ◌∷◌, codes, Result, Ok, Err, IsErr, refl, subst, subst₂}
-use Rattle.sqlite_value.specs.declared.value.Value.TheVariants.{Null, Int, Text}
-use Rattle.sqlite_sql.specs.Term.{lit}
-use Rattle.sqlite_schema.specs.declared.command.Command.TheVariants.{CreateTable}
+use Rattle.upd_sql.proofs.Common.{ℕ, ◌+◌, pos, List, [], ◌∷◌, codes, Result, Ok, Err, IsErr, refl, subst, Null, Int, Text, lit, Error, Database}
 use Rattle.sqlite_tied.specs.Compute.{everything}
-use Rattle.sqlite.specs.declared.error.Error.{Error}
-use Rattle.sqlite.specs.Effect.{Database}
+use Rattle.upd_sql.proofs.Common.{State, Executes, runs_as, HoldsAllRows, Ran, Steps, WasOpen, steps_then, clean_before, inserts, cast_int}
 use Rattle.sqlite.specs.Listing.{understood}
-use Rattle.sqlite.specs.State.{State, Executes}
-use Rattle.sqlite.proofs.Callers.{runs_as}
-use Rattle.upd_sqlite.specs.Stored.{HoldsAllRows}
-use Rattle.upd_sqlite.specs.Steps.{Ran, Steps}
-use Rattle.upd_sql.specs.declared.texts.TheConstants.{CREATE_META, CREATE_IDENTS, CREATE_CARDS, CREATE_ENTRIES, CREATE_TARGETS, CREATE_RUNS, CREATE_STATES, CREATE_COUNTS, CREATE_SETTLED}
-use Rattle.upd_sql.specs.Commits.{WasOpen}
-use Rattle.upd_sqlite.proofs.Chains.{steps_then, clean_before}
-use Rattle.upd_sqlite.proofs.Shapes.{creates, inserts, cast_int}
-use Rattle.upd_sql.specs.Schema.{meta, idents, cards, entries, targets, runs, states, counts, settled, meta_columns, library_schema}
+use Rattle.upd_sql.proofs.Common.{library_schema, no_rows, HasEmptyTables, Transforms, HoldsTables}
+use Rattle.std.proofs.Common.{subst₂}
+use Rattle.sqlite_schema.specs.declared.command.Command.TheVariants.{CreateTable}
+use Rattle.upd_sql.specs.declared.texts.TheConstants.{CREATE_META, CREATE_IDENTS, CREATE_CARDS, CREATE_ENTRIES, CREATE_TARGETS, CREATE_RUNS, CREATE_STATES}
+use Rattle.upd_sql.specs.declared.texts.TheConstants.{CREATE_COUNTS, CREATE_SETTLED}
+use Rattle.upd_sqlite.proofs.Shapes.{creates}
+use Rattle.upd_sql.specs.Schema.{meta, idents, cards, entries, targets, runs, states, counts, settled, meta_columns}
 use Rattle.upd_sql.specs.Encoded.{version_row}
-use Rattle.upd_sql.specs.Making.{schema_up_to, no_rows_in, no_rows, HasEmptyTables, MakesNext, Transforms}
-use Rattle.upd_sql.specs.LibraryTables.{HoldsTables}
+use Rattle.upd_sql.specs.Making.{schema_up_to, no_rows_in, MakesNext}
 use Rattle.upd_sql.proofs.WriteTexts as text
 
 abbrev pub create_meta : List ℕ
@@ -92,7 +85,8 @@ next_made n sql m old new count ran h =
     subst₂ (λ s rs. HoldsAllRows s rs new.now) m.next m.rows (creates (schema_up_to n) m.table old new (no_rows_in n) _ [] count m.defined m.lacks h w)
 
 -- the version is written
-pub version_written : (old new : State) (count : ℕ) → Executes text.insert_version [] old new (Ok count) → HasEmptyTables 9 old.now → HoldsTables no_rows new.now
+pub version_written : (old new : State) (count : ℕ) → Executes text.insert_version [] old new (Ok count) → HasEmptyTables 9 old.now
+    → HoldsTables no_rows new.now
 version_written old new count ran h =
     let w = runs_as text.insert_version [] old new library_schema h.schema_is _ text.insert_version_does.is text.insert_version_does.plain count ran in
     subst (λ row. HoldsAllRows library_schema ((row ∷ []) ∷ [] ∷ [] ∷ [] ∷ [] ∷ [] ∷ [] ∷ [] ∷ [] ∷ []) new.now) (rw (cast_int (pos 3)) refl)
@@ -102,24 +96,29 @@ version_written old new count ran h =
 pub transforms_from : {X : Type 0} (P Q : Database → Type 0) (sql : List ℕ) (old new : State) (r : Result X Error) → Ran sql [] old new r
     → ((count : ℕ) → Executes sql [] old new (Ok count) → P old.now → Q new.now)
     → Transforms P Q old new r
-transforms_from P Q sql old new (Ok x) ran means = record { steps = ran.steps; transformed = λ clean inside h. let ex = ran.executed clean inside in means ex.0 ex.1 h }
+transforms_from P Q sql old new (Ok x) ran means =
+    record { steps = ran.steps; transformed = λ clean inside h. let ex = ran.executed clean inside in means ex.0 ex.1 h }
 transforms_from P Q sql old new (Err e) ran means = record { steps = ran.steps; transformed = λ clean. tt }
 
-pub transforms_then : {X Y : Type 0} (P Q R : Database → Type 0) (a b c : State) (x : X) (r : Result Y Error) → Transforms {X = X} P Q a b (Ok x) → Transforms Q R b c r
+pub transforms_then : {X Y : Type 0} (P Q R : Database → Type 0) (a b c : State) (x : X) (r : Result Y Error) → Transforms {X = X} P Q a b (Ok x)
+    → Transforms Q R b c r
     → Transforms P R a c r
 transforms_then P Q R a b c x (Ok y) p q = record {
   steps = steps_then a b c x (Ok y) p.steps q.steps;
-  transformed = λ clean inside h. let early = clean_before b c _ q.steps.survives clean in q.transformed clean (p.steps.going early inside) (p.transformed early inside h);
+  transformed = λ clean inside h. let early =
+      clean_before b c _ q.steps.survives clean in q.transformed clean (p.steps.going early inside) (p.transformed early inside h);
 }
 transforms_then P Q R a b c x (Err e) p q = record { steps = steps_then a b c x (Err e) p.steps q.steps; transformed = λ clean. tt }
 
 -- the last of some steps ran while the connection was open, so it was open before them
 pub opened_before : {X Y : Type 0} (a b c : State) (x : X) (r : Result Y Error) → Steps {X = X} a b (Ok x) → Steps b c r → WasOpen b c r → WasOpen a c r
-opened_before a b c x (Ok y) p q was = λ clean inside. let early = clean_before b c _ q.survives clean in (p.kept early inside).was_open (was clean (p.going early inside))
+opened_before a b c x (Ok y) p q was = λ clean inside. let early =
+    clean_before b c _ q.survives clean in (p.kept early inside).was_open (was clean (p.going early inside))
 opened_before a b c x (Err e) p q was = λ clean. tt
 
 -- a step failed
-pub transforms_stop : {X Y : Type 0} (P Q R : Database → Type 0) (a b : State) (d : Error) (r : Result Y Error) → Transforms {X = X} P Q a b (Err d) → IsErr r → Transforms P R a b r
+pub transforms_stop : {X Y : Type 0} (P Q R : Database → Type 0) (a b : State) (d : Error) (r : Result Y Error) → Transforms {X = X} P Q a b (Err d) → IsErr r
+    → Transforms P R a b r
 transforms_stop P Q R a b d (Ok y) p err = absurd (cc)
 transforms_stop P Q R a b d (Err e) p err =
     record { steps = record { going = λ clean. tt; kept = p.steps.kept; survives = p.steps.survives }; transformed = λ clean. tt }

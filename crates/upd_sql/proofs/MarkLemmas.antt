@@ -1,10 +1,8 @@
 -- A settlement: where the number is at or below the mark nothing changes, else the mark rises.
-use Rattle.std.proofs.Common.{◌≡◌, ℕ, ◌<◌, nat_le, Bool, true, false, if◌then◌else◌, List, [], ◌∷◌, ◌++◌, filter, find, not, refl, sym}
-use Rattle.std.proofs.Common.{ap, ◌∙◌, arith, bytes_eq, Some, None}
-use Rattle.std.specs.Option.{option_map_or}
-use Rattle.std.proofs.lemmas.Bool.Decides.{nat_tests}
-use Rattle.upd_records.specs.Rows.{Rows, MarkRow}
-use Rattle.upd_row_store.specs.Tables.{is_mark_of, mark_at, settled_to}
+use Rattle.upd_sql.proofs.Common.{◌≡◌, ℕ, ◌<◌, nat_le, Bool, true, false, if◌then◌else◌, List, [], ◌∷◌, ◌++◌, filter, not, refl, sym, ap, ◌∙◌, arith}
+use Rattle.upd_sql.proofs.Common.{bytes_eq, Some, None, option_map_or, nat_tests, Rows, MarkRow, is_mark_of, mark_at}
+use Rattle.std.proofs.Common.{find}
+use Rattle.upd_row_store.specs.Tables.{settled_to}
 use Rattle.upd_sql.specs.RowEdits.{with_runs_settled}
 
 high : (n m : ℕ) → m < n → nat_le n m ≡ false

@@ -1,30 +1,19 @@
 -- The cards of one ident moved after those of another: at the end all have moved that are listed, each once.
-use Rattle.std.proofs.Common.{◌≡◌, ℕ, ◌+◌, ◌<◌, ◌^◌, ◌==◌, nat_le, pos, Bool, true, false, ◌&&◌, ◌||◌, if◌then◌else◌, IsTrue, List, [], ◌∷◌, map, Result, Ok, Some}
-use Rattle.std.proofs.Common.{bytes_eq, refl, sym, ap, ◌∙◌, subst}
-use Rattle.std.specs.BTreeMap.{BTreeMap, is_at}
-use Rattle.std.specs.Cmp.Lexicographic.{slice_cmp}
-use Rattle.std.specs.List.{AllByRecursion, list_any}
-use Rattle.std.specs.List.Sorted.{IsStrictlySortedBy}
-use Rattle.std.specs.Map.{keys_of, lookup}
-use Rattle.std.specs.Option.{option_map_or}
-use Rattle.std.specs.Ordering.{is_eq, nat_cmp}
+use Rattle.upd_sql.proofs.Common.{◌≡◌, ℕ, ◌+◌, ◌<◌, ◌^◌, ◌==◌, nat_le, pos, Bool, true, false, ◌&&◌, if◌then◌else◌, IsTrue, List, [], ◌∷◌, map, Result, Ok}
+use Rattle.upd_sql.proofs.Common.{Some, bytes_eq, refl, sym, ap, ◌∙◌, subst, BTreeMap, slice_cmp, AllByRecursion, IsStrictlySortedBy, keys_of, option_map_or}
+use Rattle.upd_sql.proofs.Common.{nat_cmp, and_parts, all_weaker, Error, State, CardRef, CardsMoved, moved_row, Fits, CardRow, Rows, MovesListed, Makes}
+use Rattle.upd_sql.proofs.Common.{makes_then, makes_as, HoldsTables, CanMoveOf, covers, with_moved, with_others_moved}
+use Rattle.std.proofs.Common.{◌||◌}
+use Rattle.std.specs.BTreeMap.{is_at}
+use Rattle.std.specs.List.{list_any}
+use Rattle.std.specs.Map.{lookup}
+use Rattle.std.specs.Ordering.{is_eq}
 use Rattle.std.specs.declared.cmp.Ordering.TheVariants.{Less}
-use Rattle.std.proofs.lemmas.Bool.{and_parts}
 use Rattle.std.proofs.lemmas.Map.Keys.{sorted_head}
 use Rattle.std.proofs.lemmas.Map.Text.{is_eq-slice_cmp}
-use Rattle.sqlite_keyed.proofs.ListLemmas.{all_map, all_weaker}
-use Rattle.sqlite.specs.declared.error.Error.{Error}
-use Rattle.sqlite.specs.State.{State}
-use Rattle.upd_text.specs.declared.card_ref.CardRef.{CardRef}
-use Rattle.upd_records.specs.Changes.{CardsMoved, moved_row}
-use Rattle.upd_records.specs.Fits.{Fits}
-use Rattle.upd_records.specs.Rows.{CardRow, Rows}
-use Rattle.upd_row_store.specs.Movable.{MovesListed, is_listed}
+use Rattle.sqlite_keyed.proofs.ListLemmas.{all_map}
+use Rattle.upd_row_store.specs.Movable.{is_listed}
 use Rattle.upd_row_store.proofs.TableLemmas.{same_bytes}
-use Rattle.upd_sqlite.specs.Steps.{Makes}
-use Rattle.upd_sqlite.proofs.Chains.{makes_then, makes_as}
-use Rattle.upd_sql.specs.LibraryTables.{HoldsTables}
-use Rattle.upd_sql.specs.RowEdits.{CanMoveOf, covers, with_moved, with_others_moved}
 use Rattle.upd_sql.proofs.Conditions.{bytes_flip}
 use Rattle.upd_sql.proofs.Typed.{survives_itself}
 
@@ -85,7 +74,8 @@ module _ (deck from n : ℕ) where
         → map (but_of movable.entries) rs ≡ rs
     at_first [] listed = refl
     at_first (r ∷ rs) listed =
-        ap (λ x. x ∷ map (but_of movable.entries) rs) (go (list_any (λ e. covers e r.card) movable.entries) refl ((r.deck == deck) && nat_le from r.pos) listed.0)
+        ap (λ x. x ∷ map (but_of movable.entries) rs)
+        (go (list_any (λ e. covers e r.card) movable.entries) refl ((r.deck == deck) && nat_le from r.pos) listed.0)
         ∙ ap (λ xs. r ∷ xs) (at_first rs listed.1)
       where
         go : (b : Bool) → list_any (λ e. covers e r.card) movable.entries ≡ b → (c : Bool) → (IsTrue c → IsTrue (is_listed movable r.card))
@@ -96,7 +86,11 @@ module _ (deck from n : ℕ) where
 
     pub none_moved : {X : Type 0} (s : State) (x : X) → Makes {X = X} HoldsTables Can (with_others_moved movable.entries deck from n) s s (Ok x)
     none_moved s x = record {
-      steps = record { going = λ clean inside. inside; kept = λ clean inside. record { was_open = λ o. o; committed = λ o. refl }; survives = survives_itself s _ };
+      steps = record {
+        going = λ clean inside. inside;
+        kept = λ clean inside. record { was_open = λ o. o; committed = λ o. refl };
+        survives = survives_itself s _;
+      };
       made = λ clean inside it can h. subst (λ cards. HoldsTables (record it { cards = cards }) s.now) (sym (at_first it.cards can.1)) h;
     }
 

@@ -1,18 +1,12 @@
 -- The texts that read rows, and what each is compiled to.
-use Rattle.std.proofs.Common.{◌≡◌, ℕ, false, List, [], ◌∷◌, refl}
-use Rattle.sqlite_value.specs.declared.keys.Collation.TheVariants.{Binary}
-use Rattle.sqlite_value.specs.declared.keys.Key.{Key}
-use Rattle.sqlite_value.specs.Keys.{ascending}
-use Rattle.sqlite_sql.specs.declared.ops.CompareOp.TheVariants.{Eq}
-use Rattle.sqlite_sql.specs.declared.ops.BinaryOp.TheVariants.{Compare}
-use Rattle.sqlite_sql.specs.Term.{Term, col, op2}
-use Rattle.sqlite_schema.specs.declared.command.Command.TheVariants.{Select}
+use Rattle.upd_sql.proofs.Common.{◌≡◌, ℕ, false, List, [], ◌∷◌, refl, Binary, Key, Eq, Compare, Term, col, op2, IsPlain, command_of}
 use Rattle.sqlite_tied.specs.Compute.{everything}
-use Rattle.sqlite.specs.Listing.{understood, reads_listing}
-use Rattle.sqlite.proofs.Callers.{IsPlain, command_of}
-use Rattle.upd_sqlite.specs.Keyed.{plain_query, row_order}
+use Rattle.sqlite.specs.Listing.{understood}
+use Rattle.upd_sql.proofs.Common.{plain_query, row_order, library_schema}
+use Rattle.sqlite_value.specs.Keys.{ascending}
+use Rattle.sqlite_schema.specs.declared.command.Command.TheVariants.{Select}
+use Rattle.sqlite.specs.Listing.{reads_listing}
 use Rattle.upd_sql.specs.declared.texts.TheConstants as sql
-use Rattle.upd_sql.specs.Schema.{library_schema}
 
 -- A text that reads the table in a tree: which rows, which of their columns, and in which order.
 pub record Reads (sql : List ℕ) (tree : ℕ) (tests shown : List Term) (order : List (Term × Key)) : Type 0 where

@@ -1,12 +1,11 @@
 -- The library's schema, part by part.
-use Rattle.std.proofs.Common.{◌≡◌, ℕ, List, [], take, refl, ap, ◌∙◌}
+use Rattle.upd_sql.proofs.Common.{◌≡◌, ℕ, List, [], take, refl, ap, ◌∙◌, library_schema, no_schema, key_indexes}
+use Rattle.sqlite_tied.specs.Compute.{everything}
 use Rattle.sqlite_schema.specs.declared.schema.Table.{Table}
 use Rattle.sqlite_schema.specs.declared.schema.Index.{Index}
 use Rattle.sqlite_schema.specs.declared.schema.View.{View}
 use Rattle.sqlite_schema.specs.declared.schema.Schema.{Schema}
-use Rattle.sqlite_tied.specs.Compute.{everything}
-use Rattle.upd_sql.specs.Schema.{library_schema, no_schema}
-use Rattle.upd_sql.specs.Wanted.{key_indexes, first_tables}
+use Rattle.upd_sql.specs.Wanted.{first_tables}
 
 abbrev schema_of : List Table → List Index → List View → Schema
 schema_of tables indexes views = record { tables = tables; indexes = indexes; views = views }

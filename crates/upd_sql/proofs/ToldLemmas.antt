@@ -1,17 +1,11 @@
 -- A status that is changed in its place, or put after all others, by the number of rows that its card had.
-use Rattle.std.proofs.Common.{◌≡◌, ◌≢◌, ℕ, Bool, cond, List, [], ◌∷◌, ◌++◌, map, length, Result, Ok, Err, sym, ap, subst, ◌∙◌, ne_eqb}
+use Rattle.upd_sql.proofs.Common.{◌≡◌, ℕ, Bool, List, [], ◌∷◌, ◌++◌, map, length, Result, Ok, Err, sym, ap, subst, ◌∙◌, ne_eqb, Error, State, CardRef, done}
+use Rattle.upd_sql.proofs.Common.{restated, status_rows, Rows, StateRow, Makes, clean_before, steps_then, CountsStatuses, AnyTables, HoldsTables}
+use Rattle.upd_sql.proofs.Common.{with_restated, with_state, without_state}
+use Rattle.std.proofs.Common.{◌≢◌, cond}
 use Rattle.std.proofs.lemmas.Bool.Decides.{Decides-eqb}
-use Rattle.sqlite.specs.declared.error.Error.{Error}
-use Rattle.sqlite.specs.State.{State}
-use Rattle.upd_text.specs.declared.card_ref.CardRef.{CardRef}
 use Rattle.upd_records.proofs.StatusLemmas.{none_restated, none_taken, others_left}
-use Rattle.upd_records.specs.Changes.{done, other_statuses, restated, status_rows, with_status, StatusNow}
-use Rattle.upd_records.specs.Rows.{Rows, StateRow}
-use Rattle.upd_sqlite.specs.Steps.{Makes}
-use Rattle.upd_sqlite.proofs.Chains.{clean_before, steps_then}
-use Rattle.upd_sql.specs.Commits.{CountsStatuses}
-use Rattle.upd_sql.specs.LibraryTables.{AnyTables, HoldsTables}
-use Rattle.upd_sql.specs.RowEdits.{with_restated, with_state, without_state}
+use Rattle.upd_records.specs.Changes.{other_statuses, with_status, StatusNow}
 
 module _ (card : CardRef) (active : Bool) where
   abbrev row : StateRow
@@ -32,7 +26,8 @@ module _ (card : CardRef) (active : Bool) where
   Tells old new r = Makes HoldsTables AnyTables (done (StatusNow card active)) old new r
 
   -- the card's one row was changed
-  pub told_in_place : {X : Type 0} (old new : State) (n : ℕ) (x : X) → Restates old new (Ok n) → CountsStatuses card old new (Ok n) → n ≡ 1 → Tells old new (Ok x)
+  pub told_in_place : {X : Type 0} (old new : State) (n : ℕ) (x : X) → Restates old new (Ok n) → CountsStatuses card old new (Ok n) → n ≡ 1
+      → Tells old new (Ok x)
   told_in_place old new n x m counted one = record {
     steps = record { going = m.steps.going; kept = m.steps.kept; survives = m.steps.survives };
     made = λ clean inside it any h.

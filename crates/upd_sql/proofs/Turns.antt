@@ -1,17 +1,12 @@
 -- Changes one after another.
-use Rattle.std.proofs.Common.{◌≡◌, ℕ, ◌+◌, ◌<◌, List, [], ◌∷◌, ◌++◌, map, take, length, get_or, Ok, Option, None, Some, refl, sym, ap, ◌∙◌}
-use Rattle.std.specs.BTreeMap.{BTreeMap}
-use Rattle.std.proofs.lemmas.List.{take_more, map-append}
-use Rattle.sqlite.specs.State.{State}
+use Rattle.upd_sql.proofs.Common.{◌≡◌, ℕ, ◌+◌, ◌<◌, List, [], ◌∷◌, ◌++◌, map, take, length, get_or, Ok, None, Some, refl, sym, ap, ◌∙◌, BTreeMap, take_more}
+use Rattle.upd_sql.proofs.Common.{map-append, State, ChangeView, done, done_all, change_view, Rows, Fits, MovesListed, Makes, makes_then, makes_as}
+use Rattle.upd_sql.proofs.Common.{AllCanBeDone, HoldsTables}
+use Rattle.std.proofs.Common.{Option}
 use Rattle.upd_core.specs.declared.change.Change.{Change}
-use Rattle.upd_records.specs.Changes.{ChangeView, done, done_all, change_view}
-use Rattle.upd_records.specs.Rows.{Rows}
-use Rattle.upd_records.specs.Fits.{Fits, AllFit}
-use Rattle.upd_row_store.specs.Movable.{AllMoveListed, MovesListed}
-use Rattle.upd_sqlite.specs.Steps.{Makes}
-use Rattle.upd_sqlite.proofs.Chains.{makes_then, makes_as}
-use Rattle.upd_sql.specs.Doable.{AllCanBeDone, CanBeDone}
-use Rattle.upd_sql.specs.LibraryTables.{HoldsTables}
+use Rattle.upd_records.specs.Fits.{AllFit}
+use Rattle.upd_row_store.specs.Movable.{AllMoveListed}
+use Rattle.upd_sql.specs.Doable.{CanBeDone}
 
 fits_push : (cs : List ChangeView) (d : ChangeView) (it : Rows) → AllFit (cs ++ d ∷ []) it → AllFit cs it × Fits d (done_all cs it)
 fits_push [] d it h = (tt, h.0)

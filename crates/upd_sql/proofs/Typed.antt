@@ -1,35 +1,21 @@
 -- The same statements on lists of records, each of which is stored as a row.
-use Rattle.std.proofs.Common.{OnOk, IsErr, inl, arith, ◌≡◌, ℕ, ◌/◌, ◌-◌, ◌^◌, nat_le, unwrap_or, None, Bool, not, if◌then◌else◌, List, [], ◌∷◌, ◌++◌, map}
-use Rattle.std.proofs.Common.{length, filter, slice_get, Some, Ok, refl, sym, ap, subst, ◌∙◌, IfOk, IsTrue, true, false, Result, Err}
-use Rattle.std.specs.List.{AllByRecursion, list_all}
-use Rattle.std.proofs.lemmas.List.{length-map, map-append}
-use Rattle.sqlite_value.specs.declared.value.Value.TheVariants.{Null}
-use Rattle.sqlite_value.specs.Order.{Row}
+use Rattle.upd_sql.proofs.Common.{OnOk, IsErr, arith, ◌≡◌, ℕ, ◌/◌, ◌-◌, ◌^◌, nat_le, None, Bool, not, if◌then◌else◌, List, [], ◌∷◌, ◌++◌, map, length, filter}
+use Rattle.upd_sql.proofs.Common.{slice_get, Some, Ok, refl, sym, ap, subst, ◌∙◌, IfOk, IsTrue, true, false, Result, Err, AllByRecursion, list_all}
+use Rattle.upd_sql.proofs.Common.{length-map, map-append, Null, Row, Term, col, eval_all, holds, Insert, Delete, Update, Values, cast_all, map-map}
+use Rattle.upd_sql.proofs.Common.{filter-map, filter_same, Error, value_rows, State, Executes, Shown, Survives, IsPlain, command_of, runs_as}
+use Rattle.sqlite.specs.Listing.{understood}
+use Rattle.upd_sql.proofs.Common.{reads_as, Rows, plain_query, row_order, HoldsAllRows, rows_at, Ran, Makes, is_lone, inserts, library_schema, HoldsTables}
+use Rattle.upd_sql.proofs.Common.{AnyTables, makes_then, makes_as}
+use Rattle.std.proofs.Common.{inl, unwrap_or}
 use Rattle.sqlite_trees.specs.Tree.{Trees}
 use Rattle.sqlite_sql.specs.Program.{overlay}
-use Rattle.sqlite_sql.specs.Term.{Term, col, eval_all, holds}
 use Rattle.sqlite_schema.specs.declared.schema.Column.{Column}
 use Rattle.sqlite_schema.specs.declared.schema.Keys.TheVariants.{Enforced}
-use Rattle.sqlite_schema.specs.declared.command.Command.TheVariants.{Insert, Delete, Update}
-use Rattle.sqlite_schema.specs.declared.command.Source.TheVariants.{Values}
-use Rattle.sqlite_rules.specs.Cast.{cast_all}
 use Rattle.sqlite_rules.specs.Action.{works}
-use Rattle.sqlite_keyed.proofs.ListLemmas.{map-map, filter-map, filter_same}
-use Rattle.sqlite.specs.declared.error.Error.{Error}
-use Rattle.sqlite.specs.Effect.{value_rows}
-use Rattle.sqlite.specs.Listing.{understood}
-use Rattle.sqlite.specs.State.{State, Executes, Shown, Survives}
-use Rattle.sqlite.proofs.Callers.{IsPlain, command_of, runs_as, reads_as}
-use Rattle.upd_records.specs.Rows.{Rows}
-use Rattle.upd_sqlite.specs.Keyed.{keyed, plain_query, row_order}
-use Rattle.upd_sqlite.specs.Stored.{HoldsAllRows, rows_at, with_rows}
-use Rattle.upd_sqlite.specs.Steps.{Ran, Makes}
-use Rattle.upd_sqlite.proofs.Frames.{is_lone}
-use Rattle.upd_sqlite.proofs.Shapes.{inserts, deletes, updates, updates_counted, reads_in_order}
+use Rattle.upd_sqlite.specs.Keyed.{keyed}
+use Rattle.upd_sqlite.specs.Stored.{with_rows}
+use Rattle.upd_sqlite.proofs.Shapes.{deletes, updates, updates_counted, reads_in_order}
 use Rattle.upd_sqlite.proofs.Answers.{shown_was_open}
-use Rattle.upd_sql.specs.Schema.{library_schema}
-use Rattle.upd_sql.specs.LibraryTables.{HoldsTables, AnyTables}
-use Rattle.upd_sqlite.proofs.Chains.{makes_then, makes_as}
 use Rattle.upd_sql.proofs.ReadTexts.{Reads}
 use Rattle.upd_sql.proofs.Bare.{is_bare, bare_tests, bare_values}
 

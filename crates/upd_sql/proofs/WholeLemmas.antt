@@ -1,35 +1,18 @@
 -- Reading whole tables: the rows of an answer are the table's, in any order, and each is read as the record that it stores.
-use Rattle.std.proofs.Common.{◌≡◌, ℕ, ◌+◌, ◌<◌, true, List, [], ◌∷◌, ◌++◌, map, filter, take, length, get_or, Result, Ok, Err, refl, sym, ap, ap₂, subst, ◌∙◌}
-use Rattle.std.proofs.Common.{arith, int_cmp, nat_cmp, pos, Ordering, IsErr, IfOk}
-use Rattle.std.specs.Ordering.{ordering_then}
-use Rattle.std.specs.List.{list_all}
-use Rattle.std.proofs.lemmas.Bool.Decides.{nat_tests}
-use Rattle.std.proofs.lemmas.Int.{ints}
-use Rattle.std.proofs.lemmas.List.{take_more, get_or-map, length-map}
-use Rattle.sqlite_value.specs.declared.value.Value.TheVariants.{Null}
-use Rattle.sqlite_value.specs.Order.{Row, value_cmp}
-use Rattle.sqlite_value.specs.declared.keys.Key.{Key}
-use Rattle.sqlite_value.proofs.OrderLemmas.{then-Equal, value_cmp-Int, value_cmp-Text}
-use Rattle.sqlite_sql.specs.Query.{sort_cmp}
-use Rattle.sqlite_sql.specs.Term.{Term, eval_all}
-use Rattle.sqlite.specs.declared.error.Error.{Error}
-use Rattle.sqlite.specs.Effect.{Database}
-use Rattle.sqlite.specs.Given.{IsPlain}
+use Rattle.upd_sql.proofs.Common.{◌≡◌, ℕ, ◌+◌, ◌<◌, true, List, [], ◌∷◌, ◌++◌, map, filter, take, length, get_or, Result, Ok, Err, refl, sym, ap, ap₂, subst}
+use Rattle.upd_sql.proofs.Common.{◌∙◌, arith, pos, IsErr, IfOk, list_all, nat_tests, take_more, get_or-map, length-map, Null, Row, Key, sort_cmp, Term}
+use Rattle.upd_sql.proofs.Common.{eval_all, Error, Database, State, Shown, map-map, Target, Set, SetIn, Deck, MarkRow, Rows, RunView, TargetRow}
 use Rattle.sqlite.specs.Listing.{understood}
-use Rattle.sqlite.specs.State.{State, Shown}
-use Rattle.sqlite_keyed.proofs.ListLemmas.{map-map}
-use Rattle.upd_core.specs.declared.target.Target.{Target}
-use Rattle.upd_core.specs.declared.target.Target.TheVariants.{Set, SetIn, Deck}
-use Rattle.upd_records.specs.Rows.{MarkRow, Rows, RunView, TargetRow}
-use Rattle.upd_row_store.specs.Tables.{state_pair, count_pair}
-use Rattle.upd_sqlite.specs.Stored.{rows_at}
-use Rattle.upd_sqlite.proofs.Frames.{is_lone}
-use Rattle.upd_sqlite.proofs.Chains.{clean_before, steps_then}
-use Rattle.upd_sql.specs.Schema.{library_schema}
-use Rattle.upd_sql.specs.Listed.{AreInOrder, by_key, by_site, in_any_order}
+use Rattle.upd_sql.proofs.Common.{state_pair, count_pair, rows_at, is_lone, clean_before, steps_then, library_schema, AreInOrder, by_key, by_site}
+use Rattle.upd_sql.proofs.Common.{in_any_order, num, ident_row, card_row, entry_row, target_row, run_row, state_row, mark_row, stored, HoldsTables}
+use Rattle.std.proofs.Common.{int_cmp, nat_cmp, Ordering}
+use Rattle.std.specs.Ordering.{ordering_then}
+use Rattle.std.proofs.lemmas.Int.{ints}
+use Rattle.sqlite_value.specs.Order.{value_cmp}
+use Rattle.sqlite_value.proofs.OrderLemmas.{then-Equal, value_cmp-Int, value_cmp-Text}
+use Rattle.sqlite.specs.Given.{IsPlain}
 use Rattle.upd_sql.specs.Commits.{IsAnswered, Looks}
-use Rattle.upd_sql.specs.Encoded.{num, ident_row, card_row, entry_row, target_row, run_row, state_row, kept_state, kept_count, mark_row, stored}
-use Rattle.upd_sql.specs.LibraryTables.{HoldsTables}
+use Rattle.upd_sql.specs.Encoded.{kept_state, kept_count}
 use Rattle.upd_sql.proofs.Listed.{lists, ordered_as}
 use Rattle.upd_sql.proofs.Bare.{is_bare}
 use Rattle.upd_sql.proofs.ReadTexts.{Reads, two, three, four, five, six, runs_order, marks_order}
@@ -164,27 +147,10 @@ looks_as F G a b x y means p = record {
   found = λ clean it h. means it (p.found clean it h);
 }
 
--- the same on the way, whether it went well or not
-pub looks_weaker : {X : Type 0} (F G : Rows → X → Type 0) (a b : State) (r : Result X Error) → ((it : Rows) (x : X) → F it x → G it x) → Looks F a b r
-    → Looks G a b r
-looks_weaker F G a b (Ok x) means p = looks_as F G a b x x (λ it. means it x) p
-looks_weaker F G a b (Err e) means p = record { steps = p.steps; was_open = p.was_open; same = p.same; found = λ clean. tt }
-
 -- one look more, and what was found in both
 pub looks_more : {X Y Z : Type 0} (F : Rows → X → Type 0) (G : Rows → Y → Type 0) (H : Rows → Z → Type 0) (a b c : State) (x : X) (y : Y) (z : Z)
     → Looks F a b (Ok x) → Looks G b c (Ok y) → ((it : Rows) → F it x → G it y → H it z) → Looks H a c (Ok z)
 looks_more F G H a b c x y z p q both = looks_as (λ it v. F it x × G it v) H a c y z (λ it h. both it h.0 h.1) (looks_then F G a b c x (Ok y) p q)
-
--- looks after which something failed
-pub looks_not : {X Y : Type 0} (F : Rows → X → Type 0) (G : Rows → Y → Type 0) (a b : State) (s : Result X Error) (r : Result Y Error) → Looks F a b s → IsErr r
-    → Looks G a b r
-looks_not F G a b s (Ok y) p err = absurd (cc)
-looks_not F G a b s (Err e) p err = record {
-  steps = record { going = λ clean. tt; kept = p.steps.kept; survives = p.steps.survives };
-  was_open = λ clean. tt;
-  same = λ clean. tt;
-  found = λ clean. tt;
-}
 
 -- from a query that was answered to what was made of its answer
 pub looked : {X Y : Type 0} (F : Rows → Y → Type 0) (items : X → List Row) (sql : List ℕ) (params : Row) (a b : State) (x : X) (r : Result Y Error)

@@ -1,20 +1,13 @@
 -- The texts that change rows, and what each is compiled to.
-use Rattle.std.proofs.Common.{◌≡◌, ℕ, pos, List, [], ◌∷◌, codes, refl}
-use Rattle.sqlite_value.specs.declared.keys.Collation.TheVariants.{Binary}
-use Rattle.sqlite_value.specs.declared.value.Value.TheVariants.{Null, Int, Text}
-use Rattle.sqlite_sql.specs.declared.ops.ArithOp.TheVariants.{Add, Sub}
-use Rattle.sqlite_sql.specs.declared.ops.CompareOp.TheVariants.{Eq, Ge, Le}
-use Rattle.sqlite_sql.specs.declared.ops.BinaryOp.TheVariants.{Arith, Compare}
-use Rattle.sqlite_sql.specs.Term.{Term, lit, col, op2}
-use Rattle.sqlite_schema.specs.declared.command.Command.{Command}
-use Rattle.sqlite_schema.specs.declared.command.Command.TheVariants.{Insert, Delete, Update}
-use Rattle.sqlite_schema.specs.declared.command.Source.TheVariants.{Values}
+use Rattle.upd_sql.proofs.Common.{◌≡◌, ℕ, pos, List, [], ◌∷◌, codes, refl, Binary, Null, Int, Text, Eq, Compare, Term, lit, col, op2, Insert, Delete, Update}
+use Rattle.upd_sql.proofs.Common.{Values, IsPlain, command_of, plain_query, library_schema}
 use Rattle.sqlite_tied.specs.Compute.{everything}
 use Rattle.sqlite.specs.Listing.{understood}
-use Rattle.sqlite.proofs.Callers.{IsPlain, command_of}
-use Rattle.upd_sqlite.specs.Keyed.{plain_query}
+use Rattle.sqlite_sql.specs.declared.ops.ArithOp.TheVariants.{Add, Sub}
+use Rattle.sqlite_sql.specs.declared.ops.CompareOp.TheVariants.{Ge, Le}
+use Rattle.sqlite_sql.specs.declared.ops.BinaryOp.TheVariants.{Arith}
+use Rattle.sqlite_schema.specs.declared.command.Command.{Command}
 use Rattle.upd_sql.specs.declared.texts.TheConstants as sql
-use Rattle.upd_sql.specs.Schema.{library_schema}
 
 -- A text is compiled to this command.
 pub record Compiles (sql : List ℕ) (command : Command) : Type 0 where

@@ -1,5 +1,5 @@
 -- What an INSERT, a DELETE, an UPDATE, a SELECT and a CREATE TABLE of the plain kinds do to the rows of the tables.
-use Rattle.std.proofs.Common.{◌≡◌, ◌≢◌, ◌⊎◌, inl, inr, ℕ, ◌/◌, ℤ, pos, Bool, true, false, not, if◌then◌else◌, cond, List, [], ◌∷◌, ◌++◌, map, drop, length, filter}
+use Rattle.std.proofs.Common.{if◌then◌else◌, ◌≡◌, ◌≢◌, ◌⊎◌, inl, inr, ℕ, ◌/◌, ℤ, Bool, true, false, not, cond, List, [], ◌∷◌, ◌++◌, map, drop, length, filter}
 use Rattle.std.proofs.Common.{slice_get, Some, None, Result, Ok, Err, refl, sym, ap, subst, ◌∙◌, IsPermutation, IsSorted, IsTrue, unwrap_or}
 use Rattle.std.specs.List.{AllByRecursion, list_all}
 use Rattle.std.specs.Ordering.{on}
@@ -22,7 +22,6 @@ use Rattle.sqlite_schema.specs.declared.schema.Keys.TheVariants.{Enforced}
 use Rattle.sqlite_schema.specs.declared.schema.Column.{Column}
 use Rattle.sqlite_schema.specs.declared.schema.Table.{Table}
 use Rattle.sqlite_schema.specs.declared.schema.Schema.{Schema}
-use Rattle.sqlite_schema.specs.declared.command.Command.{Command}
 use Rattle.sqlite_schema.specs.declared.command.Command.TheVariants.{Insert, Delete, Update, Select, CreateTable}
 use Rattle.sqlite_schema.specs.declared.command.Source.TheVariants.{Values}
 use Rattle.sqlite_rules.specs.declared.error.Rowids.TheVariants.{Chosen, Given}
@@ -42,10 +41,10 @@ use Rattle.sqlite.specs.Rows.{Written}
 use Rattle.sqlite.specs.Does.{Tally, Does, AtPlace, OnRows, lacks_sequence}
 use Rattle.sqlite.specs.State.{State, mode_of, Writes}
 use Rattle.sqlite.proofs.Callers.{one_step}
-use Rattle.upd_sqlite.specs.Keyed.{sqlite_count, keyed, plain_query, row_count, row_order}
+use Rattle.upd_sqlite.specs.Keyed.{keyed, plain_query, row_order}
 use Rattle.upd_sqlite.specs.Stored.{HasAllRows, HoldsAllRows, rows_at, with_rows}
 use Rattle.upd_sqlite.proofs.Trees.{has_mapped, mapped_from, has_permuted, put_new, left_is, in_place, replaced_is, replaced_shaped}
-use Rattle.upd_sqlite.proofs.Queries.{any_order, count_is, outputs, row_order_is}
+use Rattle.upd_sqlite.proofs.Queries.{any_order, outputs, row_order_is}
 use Rattle.upd_sqlite.proofs.Frames.{is_lone, framed, rows_there, shown_there, with_table}
 
 -- ---- casts of the values that such a table takes
@@ -288,14 +287,6 @@ selects schema k tree alone db all params h tests project order q f g names own 
     ap (map (λ v. (g v, f v))) passing ∙ map-map (λ v. (g v, f v)) (drop 1) _
     ∙ Rattle.sqlite_keyed.proofs.ListLemmas.map_same _ _ (λ r. λ i. (sym (orders r) i, sym (shows r) i)) _ in
     (found.0, subst (λ l. IsPermutation l found.0) (sym first) found.1, found.2, found.3)
-
--- a SELECT of the number of rows
-pub counts : (schema : Schema) (k tree : ℕ) → is_lone tree k schema.tables ≡ true → (db : Database) (all : List (List Row)) (params : Row)
-    → HasAllRows schema all db → (names : List (List ℕ)) → overlay db.trees [] tree ≡ db.trees tree → (rows : List Row)
-    → Reads (Select (record { lets = []; body = row_count tree }) names) db params rows → rows ≡ (Int (pos (sqlite_count (length (rows_at k all)))) ∷ []) ∷ []
-counts schema k tree alone db all params h names own rows reads =
-    count_is tree params db.trees own rows reads.answer
-    ∙ ap (λ n. (Int (pos (sqlite_count n)) ∷ []) ∷ []) (sym (length-map (db.trees tree) (drop 1)) ∙ ap length (shown_there tree db.trees k schema.tables all alone h.rows_are))
 
 -- a SELECT of the rows that pass a test, in the order of the table
 pub reads_in_order : (schema : Schema) (k tree : ℕ) → is_lone tree k schema.tables ≡ true → (db : Database) (all : List (List Row)) (params : Row)

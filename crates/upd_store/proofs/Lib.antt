@@ -1,3 +1,4 @@
+pub mod Common
 mod VersionLemmas
 pub mod OneLayout
 pub mod Opening

@@ -1,11 +1,12 @@
 -- The objects that a file lists have one layout, where one of them makes the library's schema.
-use Rattle.std.proofs.Common.{◌≡◌, ◌⊎◌, inl, inr, ℕ, ◌+◌, ◌*◌, ◌%◌, ◌<◌, pos, Bool, true, false, List, [], ◌∷◌, length, map, filter, take, get_or, codes, ◌++◌}
-use Rattle.std.proofs.Common.{Option, None, Some, IsTrue, MatchBool, refl, sym, ap, ap₂, subst, ◌∙◌, arith, get_or-take, eq-eqb, eqb-true, true≢false, if◌then◌else◌, ◌==◌}
+use Rattle.upd_store.proofs.Common.{◌≡◌, ◌⊎◌, inl, inr, ℕ, ◌%◌, Bool, true, false, List, [], ◌∷◌, length, map, filter, take, codes, ◌++◌, Some, IsTrue, refl}
+use Rattle.upd_store.proofs.Common.{sym, ap, ap₂, subst, ◌∙◌, arith, eq-eqb, if◌then◌else◌, list_all, Null, Text, Row, Schema, Lists, joined, unrooted}
+use Rattle.upd_store.proofs.Common.{library_schema}
+use Rattle.std.proofs.Common.{◌+◌, ◌*◌, ◌<◌, pos, get_or, Option, None, MatchBool, get_or-take, eqb-true, true≢false, ◌==◌}
 use Rattle.std.proofs.lemmas.Bool.{and_parts, cases_Bool}
-use Rattle.std.specs.List.{list_all}
 use Rattle.sqlite_value.specs.declared.value.Value.{Value}
-use Rattle.sqlite_value.specs.declared.value.Value.TheVariants.{Null, Int, Real, Text, Blob}
-use Rattle.sqlite_value.specs.Order.{Row, bytes, column}
+use Rattle.sqlite_value.specs.declared.value.Value.TheVariants.{Int, Real, Blob}
+use Rattle.sqlite_value.specs.Order.{bytes, column}
 use Rattle.sqlite_trees.specs.Objects.{number_in}
 use Rattle.sqlite_trees.specs.declared.store.Shape.{Shape}
 use Rattle.sqlite_schema.specs.Names.{same_name}
@@ -13,19 +14,15 @@ use Rattle.sqlite_schema.specs.Rules.{table_reals, index_reals}
 use Rattle.sqlite_schema.specs.declared.schema.Table.{Table}
 use Rattle.sqlite_schema.specs.declared.schema.Index.{Index}
 use Rattle.sqlite_schema.specs.declared.schema.View.{View}
-use Rattle.sqlite_schema.specs.declared.schema.Schema.{Schema}
 use Rattle.sqlite_resolve.specs.Compile.{defined_is_read}
 use Rattle.sqlite_rules.specs.Lists.{Has}
 use Rattle.sqlite_rules.proofs.ListLemmas.{all_has, has_filtered, has_kept, test_has}
-use Rattle.sqlite_catalog.specs.Listing.{IsAside, IsDefined, IsIndexRow, IsOwned, IsReadable, IsTableRow, IsViewRow, Lists, ReadsTable, cut, is_index_row, is_table_row, is_unread}
-use Rattle.sqlite_catalog.specs.Listing.{is_view_row, unordered}
+use Rattle.sqlite_catalog.specs.Listing.{IsAside, IsDefined, IsIndexRow, IsOwned, IsReadable, IsTableRow, IsViewRow, ReadsTable, cut, is_index_row}
+use Rattle.sqlite_catalog.specs.Listing.{is_table_row, is_unread, is_view_row, unordered}
 use Rattle.sqlite_catalog.specs.Reading.{AreRead}
 use Rattle.sqlite_catalog.proofs.LayoutLemmas.{row_kind, zipped_left, zipped_right}
 use Rattle.sqlite_catalog.proofs.ReadLemmas.{read_once, reads, table_once}
 use Rattle.sqlite_catalog.proofs.StepLemmas.{same_itself}
-use Rattle.sqlite_store.specs.Joined.{joined}
-use Rattle.sqlite.specs.Opening.{unrooted}
-use Rattle.upd_sql.specs.Schema.{library_schema}
 
 -- ---- rows with the same first columns
 

@@ -1,17 +1,21 @@
 -- Reads of a store of trees, one after another.
-use Rattle.std.proofs.Common.{◌≡◌, inl, inr, Bool, false, true, Result, Ok, Err, IsErrAnd, IsTrue, refl, sym, ap, subst, ◌∙◌, arith}
-use Rattle.sqlite_trees.specs.declared.error.StoreError.{StoreError}
-use Rattle.sqlite_trees.specs.declared.store.Store.{Ghosts}
-use Rattle.sqlite_trees.specs.Tree.{Trees}
-use Rattle.sqlite_trees.specs.View.{View, IsClean, IsFailure, IsQuiet, IsRolledBack, KeepsSchema}
-use Rattle.sqlite_exec.specs.Calls.{OnlyReads}
-use Rattle.upd_records.specs.Rows.{Rows}
-use Rattle.upd_sql.specs.Commits.{ShowsIn}
-use Rattle.upd_store.specs.TreeReads.{Answers, Finds, IsWhole}
+use Rattle.upd_store.proofs.Common.{◌≡◌, inl, inr, Bool, false, true, Result, Ok, Err, IsErrAnd, IsTrue, refl, sym, ap, subst, ◌∙◌, arith, StoreError, Ghosts}
+use Rattle.upd_store.proofs.Common.{Trees, View, IsClean, IsQuiet, KeepsSchema, OnlyReads, Rows, ShowsIn, Finds}
+use Rattle.sqlite_trees.specs.View.{IsFailure, IsRolledBack}
+use Rattle.upd_store.specs.TreeReads.{Answers, IsWhole}
 
 pub read_fails : (old new : View) (e : StoreError) → OnlyReads old new → IsFailure old new e
 read_fails old new e reads = rw reads (record {
-  kept = record { shape = refl; reals = refl; committed_shape = refl; committed_reals = refl; numbered = refl; was_open = λ h. h; committed = λ _. refl; marks = λ _. refl };
+  kept = record {
+    shape = refl;
+    reals = refl;
+    committed_shape = refl;
+    committed_reals = refl;
+    numbered = refl;
+    was_open = λ h. h;
+    committed = λ _. refl;
+    marks = λ _. refl;
+  };
   unchanged = λ _. refl;
   refused = λ _ _. refl;
 })
@@ -47,7 +51,8 @@ module _ {S : Type 0} (store : Ghosts S) where
 
   -- ---- a walk outside of a transaction, and the rollback of one that failed
   module _ {A : Type 0} (R : Rows → A → Type 0) (a : S) (whole : IsWhole (store.view a)) where
-    pub answered : (b : S) (x : A) → ((store.view a).is_open ≡ false → IsTrue (store.view a).is_broken) → Finds store a b R (Ok x) → Answers store a b R (Ok x)
+    pub answered : (b : S) (x : A) → ((store.view a).is_open ≡ false → IsTrue (store.view a).is_broken) → Finds store a b R (Ok x)
+        → Answers store a b {E = StoreError} R (Ok x)
     answered b x law h =
         let early : IsClean (store.view b) → IsClean (store.view a) = λ clean. omega (arith, clean, h.quiet.clean) in
         let is_open : IsClean (store.view b) → IsTrue (store.view a).is_open = λ clean. is_open_if _ _ law (h.sound clean) in
@@ -75,7 +80,7 @@ module _ {S : Type 0} (store : Ghosts S) where
 
   module _ {A B : Type 0} (R : Rows → A → Type 0) (Q : Rows → B → Type 0) where
     -- one read after another
-    pub after : (a b c : S) (x : A) (r : Result B StoreError) → Answers store a b R (Ok x) → Answers store b c Q r
+    pub after : (a b c : S) (x : A) (r : Result B StoreError) → Answers store a b {E = StoreError} R (Ok x) → Answers store b c Q r
         → Answers store a c (λ it y. R it x × Q it y) r
     after a b c x (Ok y) p q =
         let early : IsClean (store.view c) → IsClean (store.view b) = λ clean. omega (arith, clean, q.quiet.clean) in
@@ -101,7 +106,8 @@ module _ {S : Type 0} (store : Ghosts S) where
         }
 
     -- what is made of what was found
-    pub found_as : (a b : S) (x : A) (y : B) → Answers store a b R (Ok x) → ((it : Rows) → R it x → Q it y) → Answers store a b Q (Ok y)
+    pub found_as : (a b : S) (x : A) (y : B) → Answers store a b {E = StoreError} R (Ok x) → ((it : Rows) → R it x → Q it y)
+        → Answers store a b {E = StoreError} Q (Ok y)
     found_as a b x y h means = record {
       whole = h.whole;
       was_open = h.was_open;

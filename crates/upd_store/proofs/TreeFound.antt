@@ -1,41 +1,31 @@
 -- What an open below SQL finds: the trees of the database that the files hold, once they list the library's schema.
-use Rattle.std.proofs.Common.{◌≡◌, ◌≢◌, ◌≤◌, ℕ, ◌%◌, List, Some, inl, inr, length, map, refl, sym, ap, subst, ◌∙◌, arith, eq-eqb, ne_eqb}
+use Rattle.upd_store.proofs.Common.{◌≡◌, ◌≢◌, ◌≤◌, ℕ, ◌%◌, List, Some, inl, inr, length, map, refl, sym, ap, subst, ◌∙◌, arith, eq-eqb, length-map, Image}
+use Rattle.upd_store.proofs.Common.{Row, Table, catalog_tree, Trees, View, IsClean, in_use, Recovers, recovers_once, Lists, rows_at, view, joined, file_trees}
+use Rattle.upd_store.proofs.Common.{image, state_of, HoldsDatabase, unrooted, library_schema, FindsTrees}
+use Rattle.std.proofs.Common.{ne_eqb}
 use Rattle.std.proofs.Math.Logic.{∥∥₁_elim}
 use Rattle.std.proofs.lemmas.Bool.{cases_eq}
-use Rattle.std.proofs.lemmas.List.{length-map}
 use Rattle.sqlite_disk.specs.declared.Disk.{Ghosts}
 use Rattle.sqlite_wal.specs.Format.{be32}
 use Rattle.sqlite_wal.specs.PageSize.{IsPageSize}
 use Rattle.sqlite_wal.specs.Recovery as raw
-use Rattle.sqlite_wal.specs.Recovery.{Image}
 use Rattle.sqlite_wal.proofs.RecoveryLemmas as stored
-use Rattle.sqlite_value.specs.Order.{Row}
-use Rattle.sqlite_trees.specs.declared.store.Shape.TheVariants.{Table}
 use Rattle.sqlite_trees.specs.declared.store.Store as store
-use Rattle.sqlite_trees.specs.Objects.{catalog_tree, with_version}
-use Rattle.sqlite_trees.specs.Tree.{Trees}
-use Rattle.sqlite_trees.specs.View.{View, IsClean}
+use Rattle.sqlite_trees.specs.Objects.{with_version}
 use Rattle.sqlite_pages.specs.PageMap.{PageMap}
-use Rattle.sqlite_pool.specs.File.{in_use, version_in}
-use Rattle.sqlite_pool.specs.Stored.{Recovers, reserved, stored_size}
-use Rattle.sqlite_pool.specs.StoredLaws.{recovers_once}
+use Rattle.sqlite_pool.specs.File.{version_in}
+use Rattle.sqlite_pool.specs.Stored.{reserved, stored_size}
 use Rattle.sqlite_pool.proofs.ProbeLemmas.{reserved_word}
 use Rattle.sqlite_pool.proofs.ResealLemmas.{adopts_of, plain_adopts}
-use Rattle.sqlite_catalog.specs.Listing.{Lists}
 use Rattle.sqlite_store.specs.declared.store.FileStore.{FileStore}
 use Rattle.sqlite_store.specs.declared.store.open.Unopened.{Unopened}
-use Rattle.sqlite_store.specs.Db.{rows_at}
-use Rattle.sqlite_store.specs.FileStore.{state, view}
-use Rattle.sqlite_store.specs.Joined.{joined}
+use Rattle.sqlite_store.specs.FileStore.{state}
 use Rattle.sqlite_store.specs.Listed.{catalog_rows}
-use Rattle.sqlite_store.specs.Listing.{file_trees, listed_from}
-use Rattle.sqlite_store.specs.Unopened.{image, state_of}
+use Rattle.sqlite_store.specs.Listing.{listed_from}
 use Rattle.sqlite_store.proofs.AlikeLemmas.{same_file}
-use Rattle.sqlite.specs.Files.{HoldsDatabase}
-use Rattle.sqlite.specs.Opening.{HoldsAt, HoldsIn, layout_of, unrooted}
+use Rattle.sqlite.specs.Opening.{HoldsAt, HoldsIn, layout_of}
 use Rattle.sqlite.proofs.OpenLemmas.{meets}
-use Rattle.upd_sql.specs.Schema.{library_schema}
-use Rattle.upd_store.specs.TreeOpening.{FindsTrees, IsAttached}
+use Rattle.upd_store.specs.TreeOpening.{IsAttached}
 use Rattle.upd_store.proofs.OneLayout.{one_layout}
 
 module _ {D : Type 0} {g : Ghosts D} (old : Unopened D g) (opened : FileStore D g) (it : IsAttached old opened)
@@ -76,7 +66,8 @@ module _ {D : Type 0} {g : Ghosts D} (old : Unopened D g) (opened : FileStore D 
         let own = adopts_of size (image old) pages it.found in
         ∥∥₁_elim it.ours (λ p q. absurd p) (λ mine.
         let ours = reserved_word size (image old) pages own large mine.file.sound in
-        let same = stored.recovers_once size (image old) held.found.stored own.stored (subst (λ k. raw.Recovers k (image old) held.found.stored) is held.found.found)
+        let same = stored.recovers_once size (image old) held.found.stored own.stored
+        (subst (λ k. raw.Recovers k (image old) held.found.stored) is held.found.found)
         (subst (λ k. raw.Recovers k (image old) own.stored) whole own.found) in
         let some : Some theirs.0 ≡ Some ours.0 = sym theirs.1 ∙ ap (λ (p : PageMap). p 1) same ∙ ours.1 in
         let first : theirs.0 ≡ ours.0 = cc in

@@ -1,19 +1,14 @@
 -- A walk over a tree, with the records of the rows so far.
-use Rattle.std.proofs.Common.{◌≡◌, inl, ℕ, Bool, true, false, List, Vec, [], ◌∷◌, ◌++◌, drop, map, Result, Ok, Err, IsErrAnd, IsSome, refl, sym, ap, subst, ◌∙◌, append_assoc, append-nil, arith}
+use Rattle.upd_store.proofs.Common.{◌≡◌, inl, ℕ, Bool, true, false, List, [], ◌∷◌, ◌++◌, drop, map, Result, Ok, Err, IsErrAnd, refl, sym, ap, subst, ◌∙◌}
+use Rattle.upd_store.proofs.Common.{arith, Row, StoreError, Ghosts, View, IsClean, IsQuiet, KeepsSchema, OnlyReads, Rows, ShowsIn, Finds}
+use Rattle.std.proofs.Common.{Vec, IsSome, append_assoc, append-nil}
 use Rattle.std.specs.declared.alloc.Global.{Global}
-use Rattle.sqlite_value.specs.Order.{Row}
 use Rattle.sqlite_value.specs.declared.keys.Order.{Order}
-use Rattle.sqlite_trees.specs.declared.error.StoreError.{StoreError}
-use Rattle.sqlite_trees.specs.declared.store.Store.{Ghosts}
 use Rattle.sqlite_trees.specs.Tree.{from_key}
-use Rattle.sqlite_trees.specs.View.{View, Advances, IsClean, IsQuiet, KeepsSchema, StayLive, with_cursor}
-use Rattle.sqlite_exec.specs.Calls.{OnlyReads}
+use Rattle.sqlite_trees.specs.View.{Advances, StayLive, with_cursor}
 use Rattle.sqlite_exec.specs.Loops.{left_of}
 use Rattle.sqlite_exec.proofs.CheckLemmas.{ended, from_no_key, placed, stepped}
 use Rattle.sqlite_exec.proofs.MarkLemmas.{only_reads_then}
-use Rattle.upd_records.specs.Rows.{Rows}
-use Rattle.upd_sql.specs.Commits.{ShowsIn}
-use Rattle.upd_store.specs.TreeReads.{Finds}
 use Rattle.upd_store.proofs.TreeChains.{quiet_then, read_fails, schema_then}
 
 module _ {S : Type 0} (store : Ghosts S) (old now : S) (tree : ℕ) {X : Type 0} (row_of : X → Row) (found : List X) where
@@ -80,7 +75,8 @@ module _ {S : Type 0} (store : Ghosts S) (a b : S) (tree : ℕ) {X : Type 0} (ro
           (sym (ap (map (drop 1)) (stepped (store.view b) (store.view c) 0 row (gives clean))) ∙ was.2) in
           (next.0, next.1, was.1 ∙ ap (λ l. found ++ l) next.2, next.3, next.4)
 
-      pub walked : StayLive (store.view b) (store.view c) → (IsClean (store.view c) → Advances (store.view b) (store.view c) 0 row true) → (x : X) (next : List X)
+      pub walked : StayLive (store.view b) (store.view c) → (IsClean (store.view c) → Advances (store.view b) (store.view c) 0 row true)
+          → (x : X) (next : List X)
           → ((kept : X) → drop 1 row ≡ row_of kept → x ≡ kept) → next ≡ found ++ x ∷ [] → Walks store a c tree row_of next
       walked stay gives x next reads pushed = record {
         live = stay 0 h.live;
@@ -91,12 +87,14 @@ module _ {S : Type 0} (store : Ghosts S) (a b : S) (tree : ℕ) {X : Type 0} (ro
         rows = λ clean kept are.
             let one = next_kept gives clean kept are in (
               one.1,
-              one.2 ∙ sym (append_assoc found (one.0 ∷ []) one.1) ∙ ap (λ y. (found ++ y ∷ []) ++ one.1) (sym (reads one.0 one.3)) ∙ ap (λ l. l ++ one.1) (sym pushed),
+              one.2 ∙ sym (append_assoc found (one.0 ∷ []) one.1) ∙ ap (λ y. (found ++ y ∷ []) ++ one.1) (sym (reads one.0 one.3))
+                  ∙ ap (λ l. l ++ one.1) (sym pushed),
               one.4,
             );
       }
 
-      module _ (listed : Rows → List X) (shows : (it : Rows) → ShowsIn (store.view a).trees it → map (drop 1) ((store.view a).trees tree) ≡ map row_of (listed it)) where
+      module _ (listed : Rows → List X)
+          (shows : (it : Rows) → ShowsIn (store.view a).trees it → map (drop 1) ((store.view a).trees tree) ≡ map row_of (listed it)) where
         abbrev Listed : Rows → Vec X Global → Type 0
         Listed it all = all.items ≡ listed it
 

@@ -1,31 +1,27 @@
 -- What the text that asks for the version answers in a library's file.
-use Rattle.std.proofs.Common.{◌≡◌, ◌⊎◌, ℕ, Bool, true, false, inl, inr, if◌then◌else◌, List, [], ◌∷◌, codes, drop, map, filter}
-use Rattle.std.proofs.Common.{refl, sym, ap, subst, ◌∙◌, IsPermutation}
+use Rattle.upd_store.proofs.Common.{◌≡◌, ◌⊎◌, ℕ, Bool, true, false, inl, inr, if◌then◌else◌, List, [], ◌∷◌, codes, drop, map, filter, refl, sym, ap, subst}
+use Rattle.upd_store.proofs.Common.{◌∙◌, list_all, Null, Text, Row, Schema, State, Shown, num, HasVersion}
+use Rattle.std.proofs.Common.{IsPermutation}
 use Rattle.std.proofs.lemmas.List.{nil_from_length}
 use Rattle.std.proofs.lemmas.List.Sorted.{length_permutation}
-use Rattle.std.specs.List.{list_all}
 use Rattle.sqlite_value.specs.declared.keys.Collation.TheVariants.{Binary}
-use Rattle.sqlite_value.specs.declared.value.Value.TheVariants.{Null, Text}
-use Rattle.sqlite_value.specs.Order.{Row}
 use Rattle.sqlite_sql.specs.declared.ops.CompareOp.TheVariants.{Eq}
 use Rattle.sqlite_sql.specs.declared.ops.BinaryOp.TheVariants.{Compare}
 use Rattle.sqlite_sql.specs.Term.{Term, col, lit, op2, eval_all, holds}
-use Rattle.sqlite_schema.specs.declared.schema.Schema.{Schema}
 use Rattle.sqlite_schema.specs.declared.command.Command.TheVariants.{Select}
 use Rattle.sqlite_tied.specs.Compute.{everything}
 use Rattle.sqlite.specs.Listing.{understood, reads_listing}
-use Rattle.sqlite.specs.State.{State, Shown}
 use Rattle.sqlite.proofs.Callers.{IsPlain, command_of, one_permutation, reads_as}
 use Rattle.sqlite_keyed.proofs.ListLemmas.{filter-map, filter_same, map-map, map_same}
 use Rattle.upd_sqlite.specs.Keyed.{plain_query}
 use Rattle.upd_sqlite.specs.Stored.{HasRows}
 use Rattle.upd_sqlite.proofs.Queries.{any_order}
 use Rattle.upd_sqlite.proofs.Tests.{eq_text, one_test}
-use Rattle.upd_sql.specs.Encoded.{num, version_row}
+use Rattle.upd_sql.specs.Encoded.{version_row}
 use Rattle.upd_sql.specs.Schema.{meta}
 use Rattle.upd_sql.specs.Wanted.{first_tables}
 use Rattle.upd_store.specs.declared.version.TheConstants.{READ_VERSION}
-use Rattle.upd_store.specs.Version.{IsLibrarySchema, HasVersion}
+use Rattle.upd_store.specs.Version.{IsLibrarySchema}
 
 abbrev pub version_text : List ℕ
 version_text = READ_VERSION.now

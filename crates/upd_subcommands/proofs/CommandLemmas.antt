@@ -1,13 +1,9 @@
 -- A command that ended so, and is told so, has answered what is defined.
-use Rattle.std.proofs.Common.{◌≡◌, ◌≢◌, inl, inr, ℕ, List, [], Option, Some, None, IsSomeAnd, Result, Ok, Err, IsErrAnd, refl, ap, sym, ◌∙◌, subst}
+use Rattle.upd_subcommands.proofs.Common.{◌≡◌, inl, inr, ℕ, List, [], Option, Result, Ok, Err, IsErrAnd, refl, ap, sym, ◌∙◌, subst, Appends-nil, Fault}
+use Rattle.upd_subcommands.proofs.Common.{FaultKind, Write, FileView, ending, exit_status, fault_line, no_memory}
+use Rattle.std.proofs.Common.{◌≢◌, Some, None, IsSomeAnd}
 use Rattle.std.specs.Io.KnownBytes.{Appends}
-use Rattle.std.proofs.KnownBytes.{Appends-nil}
-use Rattle.upd_text.specs.declared.fault.Fault.{Fault}
-use Rattle.upd_text.specs.declared.fault.FaultKind.{FaultKind}
-use Rattle.upd_text.specs.declared.fault.FaultKind.TheVariants.{Write}
-use Rattle.upd_compile.specs.File.{FileView}
-use Rattle.upd_subcommands.specs.Command.{Answers, EndsTrial, IsEnd, LeavesOutput, answer_to, ending}
-use Rattle.upd_subcommands.specs.Status.{exit_status, fault_line, no_memory}
+use Rattle.upd_subcommands.specs.Command.{Answers, EndsTrial, IsEnd, LeavesOutput, answer_to}
 use Rattle.upd_wire.proofs.FrontLemmas.{front_all}
 
 -- a result that is this error
@@ -29,7 +25,15 @@ answered (Err fault) status defined output output' faults faults' (inl refused) 
     let IsAnswered : Result FileView Fault → Type 0 = λ d. Answers (answer_to d) (ending status output output' faults faults') in
     subst IsAnswered (sym refused.0) (inl (told.0, refused.1, told.1))
 answered (Err fault) status defined output output' faults faults' (inl refused) (inr unsaid) =
-    inr (unsaid.0, (fault, inr (ap (λ d. (answer_to d).faults) refused.0), nothing_left fault.kind output output' (answer_to defined).output refused.1, unsaid.1))
+    inr (
+      unsaid.0,
+      (
+        fault,
+        inr (ap (λ d. (answer_to d).faults) refused.0),
+        nothing_left fault.kind output output' (answer_to defined).output refused.1,
+        unsaid.1,
+      ),
+    )
 answered (Err fault) status defined output output' faults faults' (inr failed) (inl told) =
     inr (told.0 ∙ failed.0, (fault, inl failed.0, failed.1, front_all faults faults' (fault_line fault) told.1))
 answered (Err fault) status defined output output' faults faults' (inr failed) (inr unsaid) = inr (unsaid.0, (fault, inl failed.0, failed.1, unsaid.1))

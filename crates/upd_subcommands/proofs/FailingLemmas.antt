@@ -1,11 +1,8 @@
 -- How commands fail.
-use Rattle.std.proofs.Common.{◌≡◌, ◌⊎◌, inl, inr, ℕ, List, Option, Result, Ok, Err, IsErrAnd, IfErr, IfOk, ap, sym, ◌∙◌, subst, arith}
-use Rattle.upd_text.specs.declared.fault.Fault.{Fault}
-use Rattle.upd_text.specs.declared.fault.FaultKind.{FaultKind}
-use Rattle.upd_text.specs.declared.fault.FaultKind.TheVariants.{NoMemory, Store, Read, Write}
-use Rattle.upd_subcommands.specs.Command.{IsReported}
+use Rattle.upd_subcommands.proofs.Common.{◌≡◌, ◌⊎◌, inl, inr, ℕ, List, Option, Result, Ok, Err, IsErrAnd, ap, sym, ◌∙◌, subst, arith, Fault, FaultKind}
+use Rattle.upd_subcommands.proofs.Common.{NoMemory, Store, Read, Write, IsReported, exit_status, no_memory, read_failed}
+use Rattle.std.proofs.Common.{IfErr, IfOk}
 use Rattle.upd_subcommands.specs.DeskCommands.{IsUnread}
-use Rattle.upd_subcommands.specs.Status.{exit_status, no_memory, read_failed}
 
 -- an input that isn't read, where `?` passes on why
 pub passed_unread : (result : Result ℕ Fault) (fault : Fault) → IsErrAnd result (λ e. e ≡ fault) → (fault ≡ no_memory) ⊎ (fault ≡ read_failed)

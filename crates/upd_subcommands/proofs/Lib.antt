@@ -1,6 +1,7 @@
 pub mod StreamLemmas
 pub mod TrialLemmas
 pub mod CommandLemmas
+pub mod Common
 pub mod ReportingLemmas
 pub mod QueryAnswers
 pub mod FailingLemmas

@@ -1,12 +1,11 @@
 -- Frames of runs, one after the other.
-use Rattle.std.proofs.Common.{◌≡◌, ℕ, suc, ◌+◌, List, [], ◌∷◌, ◌++◌, length, codes, refl, sym, ap, ◌∙◌, subst, arith, append_assoc}
-use Rattle.std.specs.List.{AllByRecursion, flat_map}
+use Rattle.upd_subcommands.proofs.Common.{◌≡◌, ℕ, ◌+◌, List, [], ◌∷◌, ◌++◌, length, refl, sym, ap, ◌∙◌, subst, arith, append_assoc, AllByRecursion, flat_map}
+use Rattle.upd_subcommands.proofs.Common.{arrival_view, frame_text, frames_text, IsAdmitted, frames_from}
+use Rattle.std.proofs.Common.{suc, codes}
 use Rattle.std.proofs.lemmas.List.{flat_map_more}
 use Rattle.upd_deck.proofs.GrammarParts.{all_append}
 use Rattle.upd_text.specs.Units.{Bytes}
-use Rattle.upd_desk.specs.Arrivals.{ArrivalView, arrival_view}
-use Rattle.upd_wire.specs.Frames.{frame_text, frames_text}
-use Rattle.upd_subcommands.specs.Parts.{IsAdmitted, frames_from}
+use Rattle.upd_desk.specs.Arrivals.{ArrivalView}
 
 frames_more : (site : Bytes) (n : ℕ) (mode : Bytes) (runs : List Bytes) (run : Bytes)
     → frames_from site n mode (runs ++ run ∷ []) ≡ frames_from site n mode runs ++ arrival_view site (n + length runs) mode run ∷ []

@@ -1,10 +1,7 @@
 -- Queries and their answers.
-use Rattle.std.proofs.Common.{◌≡◌, ℕ, List, Result, sym, subst}
+use Rattle.upd_subcommands.proofs.Common.{◌≡◌, ℕ, List, Result, sym, subst, Fault, Ghosts, Keeps, Tells}
 use Rattle.std.specs.Result.{result_map_both}
-use Rattle.upd_text.specs.declared.fault.Fault.{Fault}
-use Rattle.upd_row_store.specs.declared.meaning.Meaning.{Ghosts}
-use Rattle.upd_row_store.specs.Keeping.{CountsFailure, Keeps}
-use Rattle.upd_desk.specs.Holding.{Tells}
+use Rattle.upd_row_store.specs.Keeping.{CountsFailure}
 use Rattle.upd_wire.proofs.AskLemmas.{fails_alike}
 use Rattle.upd_subcommands.specs.DeskCommands.{IsAnswered, query_text}
 use Rattle.upd_words.specs.declared.querying.Query.{Query}

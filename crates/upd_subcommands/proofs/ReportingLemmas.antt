@@ -1,7 +1,7 @@
 -- How a mark is told.
-use Rattle.std.proofs.Common.{◌≡◌, ℕ, List, [], ◌∷◌, ◌++◌, Bor, get_or, length, Option, Result, Ok, ap, ◌∙◌, append_assoc, append-nil, arith}
-use Rattle.std.specs.List.{flat_map}
-use Rattle.upd_text.specs.declared.fault.Fault.{Fault}
+use Rattle.upd_subcommands.proofs.Common.{◌≡◌, ℕ, List, [], ◌∷◌, ◌++◌, get_or, length, Option, Result, Ok, ap, ◌∙◌, append_assoc, append-nil, arith, flat_map}
+use Rattle.upd_subcommands.proofs.Common.{Fault}
+use Rattle.std.proofs.Common.{Bor}
 use Rattle.upd_desk.specs.ReplyTexts.{settled_bytes}
 use Rattle.upd_wire.proofs.AnswerHeadLemmas.{mark_text}
 use Rattle.upd_subcommands.specs.Reporting.{ReportsMark, Writes}

@@ -1,16 +1,12 @@
 -- What is read of an input.
-use Rattle.std.proofs.Common.{◌≡◌, ℕ, ◌+◌, ◌⊎◌, ◌<◌, ◌≤◌, inl, inr, List, [], ◌++◌, Option, length, take, sym, ap, ◌∙◌, subst, append-nil, arith}
-use Rattle.std.proofs.lemmas.Bool.{cases_lt}
-use Rattle.std.proofs.lemmas.List.{take_all}
+use Rattle.upd_subcommands.proofs.Common.{◌≡◌, ℕ, ◌+◌, ◌⊎◌, ◌<◌, ◌≤◌, inl, inr, List, [], ◌++◌, Option, length, take, sym, ap, ◌∙◌, subst, append-nil, arith}
+use Rattle.upd_subcommands.proofs.Common.{cases_lt, take_all, Fault, FaultKind, no_memory, read_failed, some_input}
 use Rattle.std.proofs.Math.Seq.{take-append_seam}
 use Rattle.std.proofs.KnownBytes.{Consumes-nil}
 use Rattle.std.specs.Io.KnownBytes.{Consumes, IsAtEnd}
 use Rattle.upd_wire.specs.Inputs.{IsReadFailure}
 use Rattle.upd_text.specs.Faults.{fault_at}
-use Rattle.upd_text.specs.declared.fault.Fault.{Fault}
-use Rattle.upd_text.specs.declared.fault.FaultKind.{FaultKind}
-use Rattle.upd_subcommands.specs.Status.{no_memory, read_failed}
-use Rattle.upd_wire.proofs.InputLemmas.{input_at_end, input_behind, some_input}
+use Rattle.upd_wire.proofs.InputLemmas.{input_at_end, input_behind}
 use Rattle.upd_subcommands.specs.Streams.{IsFrontOf, TakesFront}
 
 -- what was read up to a bound, or to the end, is the front of the input
@@ -26,7 +22,8 @@ front_read most old new items consumed (inr (few, ended)) = (
 )
 
 -- what was read into an empty vector up to a bound
-pub front_read_up_to : (most : ℕ) (old new : Option (List ℕ)) (first items taken : List ℕ) (len : ℕ) → first ≡ [] → items ≡ first ++ taken → Consumes old new taken
+pub front_read_up_to : (most : ℕ) (old new : Option (List ℕ)) (first items taken : List ℕ) (len : ℕ) → first ≡ [] → items ≡ first ++ taken
+    → Consumes old new taken
     → len ≡ length items → len ≤ most → (len < most → IsAtEnd new) → IsFrontOf most old items
 front_read_up_to most old new first items taken len empty grown consumed is within end =
     let all : items ≡ taken = grown ∙ ap (λ l. l ++ taken) empty in
@@ -46,10 +43,6 @@ few_taken most first items taken len empty grown is within =
 pub read_fails : (kind : FaultKind) (fault : Fault) → fault ≡ fault_at kind 0 → IsReadFailure kind → (fault ≡ no_memory) ⊎ (fault ≡ read_failed)
 read_fails kind fault is (inl memory) = inl (is ∙ ap (λ k. fault_at k 0) memory)
 read_fails kind fault is (inr read) = inr (is ∙ ap (λ k. fault_at k 0) read)
-
--- no more was taken than a greater bound
-pub takes_more : (most more : ℕ) (old new : Option (List ℕ)) → most ≤ more → TakesFront most old new → TakesFront more old new
-takes_more most more old new less (front, few, consumed) = (front, omega (arith, less, few), consumed)
 
 -- nothing was taken
 pub takes_nothing : (most : ℕ) (known : Option (List ℕ)) → TakesFront most known known

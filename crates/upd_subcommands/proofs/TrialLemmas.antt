@@ -1,27 +1,24 @@
 -- A trial needs no more of a run than the first byte beyond the limit, and fails by its refusal or for want of memory.
-use Rattle.std.proofs.Common.{◌≡◌, ◌≤◌, ◌<◌, ◌⊎◌, inl, inr, ℕ, ◌+◌, nat_lt, Bool, true, List, length, take, Option, Result, Ok, Err, refl, ap, sym}
-use Rattle.std.proofs.Common.{◌∙◌, subst, arith}
+use Rattle.upd_subcommands.proofs.Common.{◌≡◌, ◌≤◌, ◌<◌, ◌⊎◌, inl, inr, ℕ, ◌+◌, List, length, take, Option, Result, Ok, Err, refl, ap, sym, ◌∙◌, subst, arith}
+use Rattle.upd_subcommands.proofs.Common.{cases_lt, take_all, Fault, FaultKind, NoMemory, Store, Read, Write, GivesAt, FileView, exit_status, IsRunOn, trial_of}
+use Rattle.std.proofs.Common.{nat_lt, Bool, true}
 use Rattle.upd_core.specs.Library.{empty}
 use Rattle.upd_apply.specs.Applying.{applied}
-use Rattle.std.proofs.lemmas.Bool.{cases_lt, lt-ltb}
-use Rattle.std.proofs.lemmas.List.{length-take-le, take_all}
+use Rattle.std.proofs.lemmas.Bool.{lt-ltb}
+use Rattle.std.proofs.lemmas.List.{length-take-le}
 use Rattle.upd_wire.specs.Inputs.{IsInput}
-use Rattle.upd_text.specs.declared.fault.Fault.{Fault}
-use Rattle.upd_text.specs.declared.fault.FaultKind.{FaultKind}
 use Rattle.upd_text.specs.declared.fault.FaultKind.TheVariants.{RunLong, TooManyLines, BadByte, LineLong, BadName, BadCard, BadField, NoIdent, TextNowhere}
 use Rattle.upd_text.specs.declared.fault.FaultKind.TheVariants.{NameTaken, IdentUnknown, DeckUnknown, CardUnknown, RangeOrder, DeckCard, YankText, YankSelf}
 use Rattle.upd_text.specs.declared.fault.FaultKind.TheVariants.{Reserved, Full, CallUnknown, CallDepth, CompileLong, BadSite, BadNumber, BadMode, RunChanged}
-use Rattle.upd_text.specs.declared.fault.FaultKind.TheVariants.{Settled, NoMemory, Store, BadFrame, CutFrame, Read, Write}
+use Rattle.upd_text.specs.declared.fault.FaultKind.TheVariants.{Settled, BadFrame, CutFrame}
 use Rattle.upd_text.specs.declared.limits.TheConstants.{MAX_RUN_BYTES}
-use Rattle.upd_text.specs.Outcome.{◌>>=◌, FailsOf, GivesAt, at_line, need, refuse_if}
+use Rattle.upd_text.specs.Outcome.{◌>>=◌, FailsOf, at_line, need, refuse_if}
 use Rattle.upd_deck.specs.Reading.{reading}
-use Rattle.upd_compile.specs.File.{FileView, compile_file_of}
+use Rattle.upd_compile.specs.File.{compile_file_of}
 use Rattle.upd_compile.specs.Modes.{mode_named}
 use Rattle.upd_compile.specs.declared.mode.Mode.{Mode}
 use Rattle.upd_subcommands.specs.Command.{GivesUnlessFailed}
-use Rattle.upd_subcommands.specs.Status.{exit_status}
-use Rattle.upd_subcommands.specs.Streams.{IsRunOn}
-use Rattle.upd_subcommands.specs.Trial.{trial_named, trial_of}
+use Rattle.upd_subcommands.specs.Trial.{trial_named}
 
 refused : {A : Type 0} (long : Bool) (next : Bool → Result A Fault) → long ≡ true
     → at_line 0 (refuse_if long RunLong) >>= next ≡ Err (record { kind = RunLong; at = 0 })

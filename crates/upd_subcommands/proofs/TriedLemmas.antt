@@ -1,11 +1,8 @@
 -- A run that was tried: its reply and its warnings, made one after the other.
-use Rattle.std.proofs.Common.{◌≡◌, ℕ, List, Result, Ok, sym, subst}
-use Rattle.upd_text.specs.declared.fault.Fault.{Fault}
+use Rattle.upd_subcommands.proofs.Common.{◌≡◌, ℕ, List, Result, Ok, sym, subst, Fault, Ghosts, Keeps, Tells}
 use Rattle.upd_core.specs.Library.{LibraryView}
-use Rattle.upd_row_store.specs.declared.meaning.Meaning.{Ghosts}
-use Rattle.upd_row_store.specs.Keeping.{Keeps}
 use Rattle.upd_row_store.proofs.StoreLemmas.{keeps_keeps}
-use Rattle.upd_desk.specs.Holding.{HoldsIn, IsHeld, Tells}
+use Rattle.upd_desk.specs.Holding.{HoldsIn, IsHeld}
 use Rattle.upd_desk.specs.Journal.{Journal}
 use Rattle.upd_desk.specs.Outcomes.{ReplyView, reply_on}
 use Rattle.upd_edit.specs.Trying.{tried}

@@ -1,5 +1,6 @@
 -- Names lie as their keys do.
-use Rattle.std.proofs.Common.{◌≡◌, ℕ, zero, suc, ◌+◌, ◌-◌, ◌*◌, ◌<◌, ◌≤◌, [], ◌∷◌, ◌++◌, length, get_or, take, replicate, refl, sym, ap, subst, ◌∙◌, arith, append_assoc}
+use Rattle.std.proofs.Common.{◌≡◌, ℕ, zero, suc, ◌+◌, ◌-◌, ◌*◌, ◌<◌, ◌≤◌, [], ◌∷◌, ◌++◌, length, get_or, take, replicate, refl, sym, ap, subst, ◌∙◌, arith}
+use Rattle.std.proofs.Common.{append_assoc}
 use Rattle.std.proofs.Math.Seq.{take-suc}
 use Rattle.std.proofs.lemmas.Cmp.{nat_list_cmp_total, tied_itself}
 use Rattle.std.proofs.lemmas.List.{length-append, length-replicate, length-take-le, take_all}
@@ -108,7 +109,8 @@ digits : (name : Bytes) → length name ≤ 9
     → name ++ (replicate (9 - length name) 0 ++ length name ∷ []) ≡ take 8 (padded name) ++ (get_or (padded name) 8 0 ∷ length name ∷ [])
 digits name short =
     sym (append_assoc name (replicate (9 - length name) 0) (length name ∷ []))
-    ∙ ap (λ z. z ++ length name ∷ []) (sym (take_all 9 (padded name) (omega (arith, nine name short))) ∙ take-suc (padded name) 8 0 (omega (arith, nine name short)))
+    ∙ ap (λ z. z ++ length name ∷ [])
+    (sym (take_all 9 (padded name) (omega (arith, nine name short))) ∙ take-suc (padded name) 8 0 (omega (arith, nine name short)))
     ∙ append_assoc (take 8 (padded name)) (get_or (padded name) 8 0 ∷ []) (length name ∷ [])
 
 pub keys_lie : (xs ys : Bytes) → length xs ≤ 9 → length ys ≤ 9 → AreBytes (padded xs) → AreBytes (padded ys)
@@ -120,7 +122,8 @@ keys_lie xs ys short other small bytes =
     let x = get_or (padded xs) 8 0 in
     let y = get_or (padded ys) 8 0 in
     let backs = one_more x y (length xs) (length ys) (omega (arith, short)) (omega (arith, other)) in
-    let ends : ordering_then (nat_cmp x y) (ordering_then (nat_cmp (length xs) (length ys)) Equal) ≡ ordering_then (nat_cmp x y) (nat_cmp (length xs) (length ys)) =
+    let ends : ordering_then (nat_cmp x y) (ordering_then (nat_cmp (length xs) (length ys)) Equal)
+    ≡ ordering_then (nat_cmp x y) (nat_cmp (length xs) (length ys)) =
     ap (ordering_then (nat_cmp x y)) (then_Equal (nat_cmp (length xs) (length ys))) in
     (λ i. ordering_then (fronts i) ((backs ∙ sym ends) i))
     ∙ sym (joined (take 8 (padded xs)) (take 8 (padded ys)) (x ∷ length xs ∷ []) (y ∷ length ys ∷ []) same)

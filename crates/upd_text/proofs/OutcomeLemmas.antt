@@ -5,10 +5,6 @@ use Rattle.std.specs.Result.{IfOk}
 use Rattle.upd_text.specs.declared.fault.FaultKind.{FaultKind}
 use Rattle.upd_text.specs.Outcome.{◌>>=◌, need, refuse_if}
 
-pub after_any : {A B E : Type 0} (P : B → Type 0) (r : Result A E) (f : A → Result B E) → ((a : A) → IfOk (f a) P) → IfOk (r >>= f) P
-after_any P (Ok a) f h = h a
-after_any P (Err e) f h = tt
-
 pub after_need : {A B : Type 0} (P : B → Type 0) (kind : FaultKind) (o : Option A) (f : A → Result B FaultKind)
     → ((a : A) → o ≡ Some a → IfOk (f a) P) → IfOk (need kind o >>= f) P
 after_need P kind None f h = tt

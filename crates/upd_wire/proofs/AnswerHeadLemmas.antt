@@ -1,13 +1,9 @@
 -- Texts that are put together piece by piece.
-use Rattle.std.proofs.Common.{◌≡◌, ℕ, ◌+◌, ◌<◌, ◌≤◌, Bool, true, false, ◌&&◌, IsTrue, List, [], ◌∷◌, ◌++◌, Bor, length, get_or, take, drop, codes, decimal, refl, sym, ap, ap₂}
-use Rattle.std.proofs.Common.{◌∙◌, add-one, arith, append_assoc, append-nil}
+use Rattle.upd_wire.proofs.Common.{◌≡◌, ℕ, ◌+◌, ◌<◌, ◌≤◌, Bool, true, false, ◌&&◌, IsTrue, List, [], ◌∷◌, ◌++◌, Bor, length, get_or, take, drop, codes}
+use Rattle.upd_wire.proofs.Common.{decimal, refl, sym, ap, ap₂, ◌∙◌, add-one, arith, append_assoc, append-nil, at_drop_more, length-append, flat_map-append}
+use Rattle.upd_wire.proofs.Common.{false≢true, nat_tests, concat, flat_map, list_all, is_site}
 use Rattle.std.proofs.Math.Seq.{take-suc}
-use Rattle.std.proofs.lemmas.List.{at_drop_more, length-append}
-use Rattle.std.proofs.lemmas.List.Concat.{flat_map-append}
-use Rattle.std.proofs.lemmas.Bool.{false≢true}
-use Rattle.std.proofs.lemmas.Bool.Decides.{nat_tests}
-use Rattle.std.specs.List.{concat, flat_map, list_all}
-use Rattle.upd_text.specs.Keys.{is_site, is_site_byte}
+use Rattle.upd_text.specs.Keys.{is_site_byte}
 use Rattle.upd_desk.specs.ReplyTexts.{escaped, settled_bytes, settled_text}
 
 -- a piece is added to what is there

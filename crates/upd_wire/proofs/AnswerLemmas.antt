@@ -25,16 +25,11 @@ use Rattle.std.proofs.Common.{
   ◌∙◌,
   arith,
 }
-use Rattle.upd_wire.specs.Calls.{Asked, asked}
-use Rattle.upd_wire.specs.LogLines.{ExchangeView, Exchanges, IsAskOf, SaysAsked, WritesLine, asked_of}
-use Rattle.upd_wire.specs.Requests.{IsFailure, IsRead, Says}
-use Rattle.upd_wire.specs.declared.call.DeskCall.{DeskCall}
-use Rattle.upd_wire.specs.declared.call.Refusal.{Refusal}
-use Rattle.upd_text.specs.declared.fault.Fault.{Fault}
-use Rattle.upd_wire.specs.Responses.{Response, refusal_answer}
-use Rattle.upd_wire.specs.Serving.{AnswersRequest, IsAsked, IsFailed, Made, no_memory, read_failed}
-use Rattle.upd_wire.specs.AnswerViews.{answer_seen, response}
-use Rattle.upd_wire.specs.declared.http_answer.Answer.{Answer}
+use Rattle.upd_wire.proofs.Common.{Asked, asked, ExchangeView, IsAskOf, asked_of, IsFailure, IsRead, Says, DeskCall, Refusal, Fault, Response, Made}
+use Rattle.upd_wire.proofs.Common.{no_memory, answer_seen, response, Answer}
+use Rattle.upd_wire.specs.LogLines.{Exchanges, SaysAsked, WritesLine}
+use Rattle.upd_wire.specs.Responses.{refusal_answer}
+use Rattle.upd_wire.specs.Serving.{AnswersRequest, IsAsked, IsFailed, read_failed}
 
 -- a result that is this fault
 pub fault_is : {T : Type 0} (result : Result T Fault) (fault : Fault) → IsErrAnd result (λ e. e ≡ fault) → result ≡ Err fault

@@ -1,12 +1,8 @@
 -- Arrivals one after the other, and further ones behind them.
-use Rattle.std.proofs.Common.{◌≡◌, List, [], ◌∷◌, ◌++◌, length, Result, refl, sym, ◌∙◌, subst, arith}
-use Rattle.upd_text.specs.declared.fault.Fault.{Fault}
-use Rattle.upd_row_store.specs.declared.meaning.Meaning.{Ghosts}
+use Rattle.upd_wire.proofs.Common.{◌≡◌, List, [], ◌∷◌, ◌++◌, length, Result, refl, sym, ◌∙◌, subst, arith, Fault, Ghosts, ArrivalView, Event, Journal}
+use Rattle.upd_wire.proofs.Common.{ReplyView, Arrives, HoldsIn, IsLeft, after, in_hand_after}
 use Rattle.upd_row_store.proofs.StoreLemmas.{later_still, later_twice}
-use Rattle.upd_desk.specs.Arrivals.{ArrivalView}
-use Rattle.upd_desk.specs.Journal.{Event, Journal}
-use Rattle.upd_desk.specs.Outcomes.{ReplyView}
-use Rattle.upd_desk.specs.Holding.{AreAnswers, AreIdle, RunAll, Arrives, HoldsIn, IsLeft, after, after_all, in_hand_after, in_hand_after_all}
+use Rattle.upd_desk.specs.Holding.{AreAnswers, AreIdle, RunAll, after_all, in_hand_after_all}
 use Rattle.upd_desk.proofs.ArrivesLemmas.{idle_there}
 
 after_further : (j : Journal) (list more : List ArrivalView) (results further : List (Result ReplyView Fault)) → length results ≡ length list

@@ -1,13 +1,10 @@
 -- Questions to the desk and their answers.
-use Rattle.std.proofs.Common.{◌≡◌, ℕ, inl, inr, Result, Ok, Err, IfOk, IfErr, IsErr, refl}
-use Rattle.std.proofs.Common.{sym, ap, ◌∙◌}
-use Rattle.std.specs.Result.{result_map_both}
-use Rattle.upd_text.specs.declared.fault.Fault.{Fault}
+use Rattle.upd_wire.proofs.Common.{◌≡◌, ℕ, inl, inr, Result, Ok, Err, refl, sym, ap, ◌∙◌, result_map_both, Fault, Response, no_memory, answer_seen, response}
+use Rattle.upd_wire.proofs.Common.{Answer}
+use Rattle.std.proofs.Common.{IfOk, IfErr, IsErr}
 use Rattle.upd_row_store.specs.Keeping.{failures_after}
-use Rattle.upd_wire.specs.Responses.{Response, fault_response, response_of}
-use Rattle.upd_wire.specs.Serving.{AnswersTold, no_memory}
-use Rattle.upd_wire.specs.AnswerViews.{answer_seen, response}
-use Rattle.upd_wire.specs.declared.http_answer.Answer.{Answer}
+use Rattle.upd_wire.specs.Responses.{fault_response, response_of}
+use Rattle.upd_wire.specs.Serving.{AnswersTold}
 
 ok_is_no_err : {A : Type 0} {x : A} {e : Fault} → Ok x ≡ Err e → ⊥
 ok_is_no_err is = cc

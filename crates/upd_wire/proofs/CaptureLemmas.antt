@@ -1,16 +1,10 @@
 -- The parameters of a route capture the segments of a path at their places.
-use Rattle.std.proofs.Common.{◌≡◌, ℕ, suc, ◌+◌, ◌-◌, ◌<◌, ◌≤◌, List, [], ◌∷◌, ◌++◌, length, drop, map, get_or, true, false, ltb, leb, refl}
-use Rattle.std.proofs.Common.{sym, ap, ◌∙◌, arith, add-one}
-use Rattle.std.proofs.Math.Seq.{take-append_seam}
-use Rattle.std.proofs.lemmas.Bool.{and_parts, false≢true, lt-ltb}
-use Rattle.std.proofs.lemmas.Bool.Decides.{nat_tests}
-use Rattle.std.proofs.lemmas.List.{length-append, length-drop}
-use Rattle.std.proofs.lemmas.Slice.Eq.{bytes_eq-Decides}
-use Rattle.std.specs.List.{zip}
-use Rattle.std.specs.Str.{bytes_eq}
-use Rattle.matchit.specs.Params.{after_token, part_of, walk, wild_from, wild_stop}
-use Rattle.matchit.specs.Seek.{has_slash, segment}
-use Rattle.upd_wire.specs.Paths.{Part, word, any, fits}
+use Rattle.upd_wire.proofs.Common.{◌≡◌, ℕ, suc, ◌+◌, ◌-◌, ◌<◌, ◌≤◌, List, [], ◌∷◌, ◌++◌, length, drop, map, get_or, true, false, ltb, refl, sym, ap, ◌∙◌}
+use Rattle.upd_wire.proofs.Common.{arith, add-one, take-append_seam, and_parts, false≢true, lt-ltb, nat_tests, length-append, bytes_eq-Decides, zip, bytes_eq}
+use Rattle.upd_wire.proofs.Common.{part_of, walk, has_slash, segment, Part, word, any, fits}
+use Rattle.std.proofs.Common.{leb}
+use Rattle.std.proofs.lemmas.List.{length-drop}
+use Rattle.matchit.specs.Params.{after_token, wild_from, wild_stop}
 use Rattle.upd_wire.proofs.PathLemmas.{are_words, is_word, tails, word_byte}
 use Rattle.upd_wire.proofs.PathSegmentLemmas.{HaveNoSlash, drop_next, drop_past, segment_whole, spell}
 
@@ -51,9 +45,11 @@ module _ (pattern text path : List ℕ) where
       let within : ltb at (length path) ≡ true = grind (arith, nat_tests) in
       let same : wild_from (drop token pattern) (length path) token at ≡ wild_from (drop (suc token) pattern) (length path) (suc token) (suc at) =
       rw (here, here', byte, within, add-one token, add-one at) refl in
-      ap (λ (w : ℕ × ℕ). (part_of text n.0 n.1, part_of path w.1 (wild_stop pattern w.0 path w.1)) ∷ Walk names (after_token w.0) (wild_stop pattern w.0 path w.1)) same
+      ap (λ (w : ℕ × ℕ). (part_of text n.0 n.1, part_of path w.1 (wild_stop pattern w.0 path w.1))
+      ∷ Walk names (after_token w.0) (wild_stop pattern w.0 path w.1)) same
 
-  over_word : (w : List ℕ) → is_word w ≡ true → (names : List (ℕ × ℕ)) (token at : ℕ) (tokens rest : List ℕ) → drop token pattern ≡ w ++ tokens → drop at path ≡ w ++ rest
+  over_word : (w : List ℕ) → is_word w ≡ true → (names : List (ℕ × ℕ)) (token at : ℕ) (tokens rest : List ℕ) → drop token pattern ≡ w ++ tokens → drop at path
+      ≡ w ++ rest
       → LeadsTo (Walk names token at) names tokens rest
   over_word [] is names token at tokens rest here there = (token, at, refl, here, there)
   over_word (x ∷ w) is names token at tokens rest here there =
@@ -128,6 +124,7 @@ module _ (pattern text path : List ℕ) where
       let there'' = drop_past (suc at) path (b ∷ s) (spell segments) there' in
       over_byte (n ∷ names) token at 47 47 (256 ∷ tails parts) ((b ∷ s) ++ spell segments) (omega arith) here there
       ∙ (over_parameter n names parts segments (suc token) (suc at) b s short fit none here' there'
-      ∙ (ap (λ l. (part_of text n.0 n.1, b ∷ s) ∷ l) (captures_taken all parts segments names (suc i) (suc (suc token)) (suc at + length (b ∷ s)) short are count' fit rest
+      ∙ (ap (λ l. (part_of text n.0 n.1, b ∷ s) ∷ l)
+      (captures_taken all parts segments names (suc i) (suc (suc token)) (suc at + length (b ∷ s)) short are count' fit rest
       left' here'' there'')
       ∙ ap (λ l. (part_of text n.0 n.1, l) ∷ zip (map (λ (n : ℕ × ℕ). part_of text n.0 n.1) names) (taken all (suc i) parts)) (sym first)))

@@ -1,18 +1,15 @@
 -- Frames are read as they are spelled, and where none begins none is read.
-use Rattle.std.proofs.Common.{◌≡◌, ℕ, ◌+◌, ◌^◌, ◌<◌, ◌≤◌, ◌==◌, nat_lt, zero, suc, Bool, true, false, ◌&&◌, ◌||◌, List, [], ◌∷◌, ◌++◌, length, take, drop}
-use Rattle.std.proofs.Common.{get_or, decimal, Option, Some, None, sym, ap, ap₂, ◌∙◌, refl, subst, arith, lit<, append_assoc, append-nil, take-append-drop}
+use Rattle.upd_wire.proofs.Common.{◌≡◌, ℕ, ◌+◌, ◌^◌, ◌<◌, ◌≤◌, ◌==◌, nat_lt, zero, suc, Bool, true, false, ◌&&◌, ◌||◌, List, [], ◌∷◌, ◌++◌, length, take}
+use Rattle.upd_wire.proofs.Common.{drop, get_or, decimal, Option, Some, None, sym, ap, ap₂, ◌∙◌, refl, subst, arith, lit<, append_assoc, append-nil}
+use Rattle.upd_wire.proofs.Common.{take-append-drop, and_parts, cond-true, eqb-true, false≢true, lt-ltb, ltb-true, or_right, nat_tests, common_steps}
+use Rattle.upd_wire.proofs.Common.{length-take-le, list_any-append, drop-cons, take-append_seam, drop-append-add, ArrivalView, HeaderView, IsHeader, ◌>>=◌}
+use Rattle.upd_wire.proofs.Common.{cut, header_text, where_true, no_lf, no_header, no_end, in_line, in_run, IsBad, IsCut, IsFrame, arrival_of}
+use Rattle.upd_wire.specs.Header.{header_of}
+use Rattle.upd_wire.proofs.Common.{frame_text, has_lf}
+use Rattle.upd_wire.specs.Frames.{frame_of}
 use Rattle.std.proofs.Common.{length-append}
-use Rattle.std.proofs.lemmas.Bool.{and_parts, and_from, cond-true, eqb-true, eq-eqb, false≢true, lt-ltb, ltb-true, or_right}
-use Rattle.std.proofs.lemmas.Bool.Decides.{nat_tests}
-use Rattle.std.proofs.lemmas.Grind.{common_steps}
-use Rattle.std.proofs.lemmas.List.{length-take-le}
-use Rattle.std.proofs.lemmas.List.Folds.{list_any-append}
-use Rattle.std.proofs.Math.Seq.{drop-cons, take-append_seam, drop-append-add}
-use Rattle.upd_desk.specs.Arrivals.{ArrivalView}
-use Rattle.upd_wire.specs.Header.{HeaderView, IsHeader, ◌>>=◌, cut, header_of, header_text, where_true}
-use Rattle.upd_wire.specs.Frames.IsBad.{no_lf, no_header, no_end}
-use Rattle.upd_wire.specs.Frames.IsCut.{in_line, in_run}
-use Rattle.upd_wire.specs.Frames.{IsBad, IsCut, IsFrame, arrival_of, frame_of, frame_text, has_lf, header_for}
+use Rattle.std.proofs.lemmas.Bool.{and_from, eq-eqb}
+use Rattle.upd_wire.specs.Frames.{header_for}
 use Rattle.upd_wire.proofs.HeaderLemmas.{bind_then, bound, cut_behind, cut_whole, header_is_read, header_is_spelled, number_without, passes, word_without}
 
 misses : {A : Type 0} (b : Bool) (x : A) → b ≡ false → where_true b x ≡ None

@@ -1,11 +1,6 @@
 -- What is written before a write fails.
-use Rattle.std.proofs.Common.{◌≡◌, ℕ, ◌+◌, ◌-◌, ◌<◌, List, [], ◌++◌, Bor, Option, length, get_or, take, drop, sym, ap, ◌∙◌}
-use Rattle.std.proofs.Common.{append_assoc, append-nil, take-append-drop}
-use Rattle.std.proofs.lemmas.List.{at_drop_more, take_rest}
-use Rattle.std.proofs.lemmas.List.Concat.{flat_map-append}
-use Rattle.std.specs.List.{flat_map}
-use Rattle.std.specs.Io.KnownBytes.{Appends}
-use Rattle.std.proofs.KnownBytes.{Appends-trans}
+use Rattle.upd_wire.proofs.Common.{◌≡◌, ℕ, ◌+◌, ◌-◌, ◌<◌, List, [], ◌++◌, Bor, Option, length, get_or, take, drop, sym, ap, ◌∙◌, append_assoc, append-nil}
+use Rattle.upd_wire.proofs.Common.{take-append-drop, at_drop_more, take_rest, flat_map-append, flat_map, Appends, Appends-trans}
 use Rattle.upd_wire.specs.Fronts.{AppendsFront}
 
 -- what was written is extended by what was taken of the rest

@@ -1,17 +1,11 @@
 -- Heads that are read.
-use Rattle.std.proofs.Common.{◌≡◌, ◌≢◌, ◌⊎◌, ◌≤◌, ◌<◌, inl, inr, ℕ, List, [], ◌++◌, length, Option, refl, ap, arith}
-use Rattle.std.proofs.lemmas.List.{length-append}
-use Rattle.std.specs.Io.KnownBytes.{Consumes}
+use Rattle.upd_wire.proofs.Common.{◌≡◌, ◌≢◌, ◌⊎◌, ◌≤◌, ◌<◌, inl, inr, ℕ, List, [], ◌++◌, length, Option, refl, ap, arith, length-append, Consumes}
+use Rattle.upd_wire.proofs.Common.{HasNoRequest, RequestExceeds, Begins, IsInput, IsFailure, RefusesHead, Refusal, MAX_HEAD_BYTES, MAX_HEADERS}
 use Rattle.httparse.specs.declared.Error.{Error}
 use Rattle.httparse.specs.declared.Error.TheVariants.{HeaderName, HeaderValue, NewLine, Status, Token, TooManyHeaders, Version}
-use Rattle.httparse.specs.Grammar.{HasNoRequest, NeverHasRequest, print_request}
-use Rattle.httparse.specs.Spans.{RequestExceeds}
-use Rattle.upd_wire.specs.Inputs.{Begins, IsInput}
+use Rattle.httparse.specs.Grammar.{NeverHasRequest, print_request}
 use Rattle.upd_wire.proofs.InputLemmas.{input_behind, some_input}
 use Rattle.upd_wire.specs.Calls.{bad_frame}
-use Rattle.upd_wire.specs.Requests.{IsFailure, RefusesHead}
-use Rattle.upd_wire.specs.declared.call.Refusal.{Refusal}
-use Rattle.upd_wire.specs.declared.head.TheConstants.{MAX_HEAD_BYTES, MAX_HEADERS}
 
 pub nothing_has_head : HasNoRequest []
 unfolding print_request

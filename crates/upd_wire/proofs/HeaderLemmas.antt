@@ -1,24 +1,23 @@
 -- Headers are read as they are spelled.
-use Rattle.std.proofs.Common.{◌≡◌, ℕ, ◌+◌, ◌<◌, ◌≤◌, ◌^◌, ◌==◌, nat_le, zero, suc, Bool, true, false, cond, not, ◌&&◌, ◌||◌, List, [], ◌∷◌, ◌++◌, length}
-use Rattle.std.proofs.Common.{get_or, decimal, codes, Bor, Option, Some, None, Result, Ok, Err, MatchResult, sym, ap, ap₂, ◌∙◌, refl, subst, arith, lit<}
-use Rattle.std.specs.List.{list_all, list_any, position_or_len, before_first, after_first}
+use Rattle.upd_wire.proofs.Common.{◌≡◌, ℕ, ◌+◌, ◌<◌, ◌≤◌, ◌^◌, ◌==◌, nat_le, zero, suc, Bool, true, false, cond, not, ◌&&◌, ◌||◌, List, [], ◌∷◌, ◌++◌, length}
+use Rattle.upd_wire.proofs.Common.{get_or, decimal, codes, Bor, Option, Some, None, Result, Ok, Err, sym, ap, ap₂, ◌∙◌, refl, subst, arith, lit<, list_all}
+use Rattle.upd_wire.proofs.Common.{position_or_len, before_first, after_first, IsUtf8, bytes_eq, and_parts, cond-true, eqb-true, le-leb, or_right, nat_tests}
+use Rattle.upd_wire.proofs.Common.{bytes_eq-Decides, take-append_seam, drop-append-add, MAX_RUN_BYTES, is_digit, number_behind, HeaderView, IsHeader, ◌>>=◌}
+use Rattle.upd_wire.proofs.Common.{cut, header_text, where_true}
+use Rattle.upd_wire.specs.Header.{header_of}
+use Rattle.std.proofs.Common.{MatchResult}
+use Rattle.std.specs.List.{list_any}
 use Rattle.std.specs.Option.{option_map}
 use Rattle.std.specs.Result.{result_ok}
-use Rattle.std.specs.Str.{IsUtf8, bytes_eq}
-use Rattle.std.proofs.lemmas.Bool.{and_parts, cond-true, eqb-true, le-leb, leb-true, or_left, or_right}
-use Rattle.std.proofs.lemmas.Bool.Decides.{nat_tests}
+use Rattle.std.proofs.lemmas.Bool.{leb-true, or_left}
 use Rattle.std.proofs.lemmas.Fmt.{decimal-digits_value, decimal_digit, digits_decimal, digits_value-decimal, decimal_nonempty, length-decimal-le, first_decimal}
 use Rattle.std.proofs.lemmas.List.Sums.{passes_at_first, split_at_first}
-use Rattle.std.proofs.lemmas.Slice.Eq.{bytes_eq-Decides}
 use Rattle.std.proofs.lemmas.Str.{IsUtf8-from_ascii}
 use Rattle.std.proofs.lemmas.Str.Parse.{digits_value_short}
-use Rattle.std.proofs.Math.Seq.{take-append_seam, drop-append-add}
-use Rattle.upd_text.specs.declared.limits.TheConstants.{MAX_RUN_BYTES}
-use Rattle.upd_text.specs.Names.{is_digit, number_behind}
 use Rattle.upd_text.proofs.CardRefLemmas.{numeral_model}
 use Rattle.upd_wire.specs.declared.header.TheConstants.{MAX_HEADER_BYTES}
 use Rattle.upd_wire.specs.Numbers.{is_number, number_of}
-use Rattle.upd_wire.specs.Header.{HeaderView, IsHeader, ◌>>=◌, cut, header_of, header_text, is_visible, is_word, size_of, where_true}
+use Rattle.upd_wire.specs.Header.{is_visible, is_word, size_of}
 
 -- ---- words
 

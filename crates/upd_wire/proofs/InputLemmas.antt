@@ -1,7 +1,6 @@
 -- Inputs that are read.
-use Rattle.std.proofs.Common.{◌≡◌, ℕ, List, [], ◌++◌, Option, None, Some, refl, sym, ap, ◌∙◌}
-use Rattle.std.specs.Io.KnownBytes.{Consumes, IsAtEnd}
-use Rattle.upd_wire.specs.Inputs.{IsInput}
+use Rattle.upd_wire.proofs.Common.{◌≡◌, ℕ, List, [], ◌++◌, Option, None, Some, refl, sym, ap, ◌∙◌, Consumes, IsInput}
+use Rattle.std.specs.Io.KnownBytes.{IsAtEnd}
 
 pub some_input : (known : Option (List ℕ)) → (bytes : List ℕ) × IsInput known bytes
 some_input None = ([], tt)

@@ -1,18 +1,14 @@
 -- Each text is that of a spool, and in one way.
-use Rattle.std.proofs.Common.{◌≡◌, ℕ, ◌+◌, ◌<◌, ◌≤◌, ◌==◌, zero, suc, Bool, true, false, cond, not, ◌⊎◌, inl, inr, List, [], ◌∷◌, ◌++◌, length, take}
-use Rattle.std.proofs.Common.{drop}
-use Rattle.std.proofs.Common.{get_or, Option, Some, None, refl, sym, ap, ap₂, ◌∙◌, subst, arith, append_assoc, take-append-drop}
-use Rattle.std.specs.List.{AllByRecursion, after_first, before_first, position_or_len}
-use Rattle.std.proofs.lemmas.Bool.{cases_Bool, cases_eq, cases_lt, cond-true, or_from, or_parts}
-use Rattle.std.proofs.lemmas.List.{length-take-le}
+use Rattle.upd_wire.proofs.Common.{◌≡◌, ℕ, ◌+◌, ◌<◌, ◌≤◌, ◌==◌, zero, suc, Bool, true, false, cond, not, ◌⊎◌, inl, inr, List, [], ◌∷◌, ◌++◌, length, take}
+use Rattle.upd_wire.proofs.Common.{drop, get_or, Option, Some, None, refl, sym, ap, ap₂, ◌∙◌, subst, arith, append_assoc, take-append-drop, after_first}
+use Rattle.upd_wire.proofs.Common.{before_first, position_or_len, cases_lt, cond-true, or_from, length-take-le, list_any-append, ArrivalView, MAX_FRAMES}
+use Rattle.upd_wire.proofs.Common.{HeaderView, IsHeader, header_text, no_lf, no_header, no_end, in_line, in_run, IsBad, IsCut, IsFrame}
+use Rattle.upd_wire.specs.Header.{header_of}
+use Rattle.upd_wire.specs.Frames.{frame_of}
+use Rattle.upd_wire.proofs.Common.{frame_text, frames_text, has_lf}
+use Rattle.std.specs.List.{AllByRecursion}
+use Rattle.std.proofs.lemmas.Bool.{cases_Bool, cases_eq, or_parts}
 use Rattle.std.proofs.lemmas.List.Elements.{All-from_recursion, recursion_from_All}
-use Rattle.std.proofs.lemmas.List.Folds.{list_any-append}
-use Rattle.upd_desk.specs.Arrivals.{ArrivalView}
-use Rattle.upd_wire.specs.declared.frames.TheConstants.{MAX_FRAMES}
-use Rattle.upd_wire.specs.Header.{HeaderView, IsHeader, header_of, header_text}
-use Rattle.upd_wire.specs.Frames.IsBad.{no_lf, no_header, no_end}
-use Rattle.upd_wire.specs.Frames.IsCut.{in_line, in_run}
-use Rattle.upd_wire.specs.Frames.{IsBad, IsCut, IsFrame, frame_of, frame_text, frames_text, has_lf}
 use Rattle.upd_wire.specs.Spools.{IsRest, IsSpool}
 use Rattle.upd_wire.proofs.FrameLemmas.{bad_is_no_frame, cut_is_no_frame, frame_is_read, frame_is_spelled, frame_made, no_lf_no_frame, parted_at}
 use Rattle.upd_wire.proofs.HeaderLemmas.{cut_whole, header_is_spelled}

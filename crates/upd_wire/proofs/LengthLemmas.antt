@@ -1,9 +1,6 @@
 -- What fields say of a length, however they are joined; numbers in digits.
-use Rattle.std.proofs.Common.{◌≡◌, ◌≤◌, ◌<◌, ◌+◌, ◌-◌, ◌*◌, ℕ, true, false, List, [], ◌∷◌, length, nat_lt, nat_le, refl, arith}
-use Rattle.std.proofs.lemmas.Bool.Decides.{nat_tests}
-use Rattle.std.specs.List.{list_all}
-use Rattle.upd_text.specs.Names.{is_digit, number_behind}
-use Rattle.upd_text.specs.declared.limits.TheConstants.{MAX_RUN_BYTES}
+use Rattle.upd_wire.proofs.Common.{◌≡◌, ◌≤◌, ◌<◌, ◌+◌, ◌-◌, ◌*◌, ℕ, true, false, List, [], ◌∷◌, length, nat_lt, nat_le, refl, arith, nat_tests, list_all}
+use Rattle.upd_wire.proofs.Common.{is_digit, number_behind, MAX_RUN_BYTES}
 use Rattle.upd_wire.specs.Lengths.{length_said}
 use Rattle.upd_wire.specs.declared.lengths.BodyLength.TheVariants.{Long}
 

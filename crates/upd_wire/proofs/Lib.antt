@@ -21,5 +21,6 @@ pub mod AskLemmas
 pub mod AnswerHeadLemmas
 pub mod ReasonLemmas
 pub mod AnswerLemmas
+pub mod Common
 pub mod OwedLemmas
 mod ServedLemmas

@@ -1,6 +1,6 @@
 -- What several writes leave in a text of fixed room.
-use Rattle.std.proofs.Common.{◌≡◌, ℕ, List, [], ◌∷◌, ◌++◌, ap, sym, ◌∙◌, append_assoc, append-nil}
-use Rattle.std.specs.List.{FoldsTo, concat}
+use Rattle.upd_wire.proofs.Common.{◌≡◌, ℕ, List, [], ◌∷◌, ◌++◌, ap, sym, ◌∙◌, append_assoc, append-nil, concat}
+use Rattle.std.specs.List.{FoldsTo}
 use Rattle.std.specs.Fmt.{WritesInCalls}
 use Rattle.std.specs.Fmt.InlineText.{AppendsIfIntact, IsIntact, inline_text}
 use Rattle.std.specs.declared.fmt.InlineText.{InlineText}

@@ -1,17 +1,14 @@
 -- What the desk returns is what is required.
-use Rattle.std.proofs.Common.{◌≡◌, inl, inr, ℕ, List, ◌∷◌, Bool, true, false, not, Result, Ok, Err, refl, sym, ap, ◌∙◌, subst}
-use Rattle.std.specs.Result.{result_map_both}
-use Rattle.upd_row_store.specs.declared.meaning.Meaning.{Ghosts}
-use Rattle.upd_text.specs.Keys.{is_run_number, is_site}
-use Rattle.upd_desk.specs.Holding.{HoldsIn, IsOwed, mark_after}
-use Rattle.upd_desk.specs.Journal.{Journal, Settled, mark}
-use Rattle.upd_wire.specs.Calls.{Asked, run, settle, compile, deck, card, idents, yanks}
+use Rattle.upd_wire.proofs.Common.{◌≡◌, inl, inr, ℕ, List, ◌∷◌, Bool, true, false, not, Result, Ok, Err, refl, sym, ap, ◌∙◌, subst, result_map_both, Ghosts}
+use Rattle.upd_wire.proofs.Common.{is_site, HoldsIn, Journal, Settled, Asked, run, settle, compile, deck, card, idents, yanks, Fault, Response, page}
+use Rattle.upd_wire.proofs.Common.{reply_response, DoesAsAsked, IsMarkResponse}
+use Rattle.upd_text.specs.Keys.{is_run_number}
+use Rattle.upd_desk.specs.Holding.{IsOwed, mark_after}
+use Rattle.upd_desk.specs.Journal.{mark}
 use Rattle.upd_text.specs.Outcome.{◌>>=◌, at_line, refuse_if}
-use Rattle.upd_text.specs.declared.fault.Fault.{Fault}
 use Rattle.upd_text.specs.declared.fault.FaultKind.TheVariants.{BadSite, BadNumber}
 use Rattle.upd_wire.specs.Owed.{owed}
-use Rattle.upd_wire.specs.Responses.{Response, mark_response, page, reply_response}
-use Rattle.upd_wire.specs.Serving.{DoesAsAsked, IsMarkResponse}
+use Rattle.upd_wire.specs.Responses.{mark_response}
 
 -- what is required, seen another way
 owed_as : {A : Type 0} (f : A → Response) (due result : Result A Fault) (told : Result Response Fault) → IsOwed due result

@@ -1,9 +1,8 @@
 -- Parameters that are texts.
-use Rattle.std.proofs.Common.{◌≡◌, List, ℕ, false, Ok, Err, refl}
-use Rattle.std.specs.Str.{IsUtf8, is_utf8}
-use Rattle.std.proofs.lemmas.Str.{IsUtf8-from_is_utf8, is_utf8-from_IsUtf8}
+use Rattle.upd_wire.proofs.Common.{◌≡◌, List, ℕ, false, Ok, Err, refl, IsUtf8, IsUtf8-from_is_utf8, FaultKind}
+use Rattle.std.specs.Str.{is_utf8}
+use Rattle.std.proofs.lemmas.Str.{is_utf8-from_IsUtf8}
 use Rattle.std.proofs.lemmas.Bool.{false_from_ne_true}
-use Rattle.upd_text.specs.declared.fault.FaultKind.{FaultKind}
 use Rattle.upd_wire.specs.Calls.{fault_refusal}
 use Rattle.upd_wire.specs.Parameters.{or_refuse, text_of}
 

@@ -1,11 +1,6 @@
 -- A path goes by a route's tokens exactly where its segments fit the route's parts.
-use Rattle.std.proofs.Common.{◌≡◌, ◌≢◌, ℕ, ◌<◌, List, [], ◌∷◌, ◌++◌, Bool, true, false, not, nat_lt, ◌==◌, ◌&&◌, refl, sym, ap, ◌∙◌, arith}
-use Rattle.std.proofs.lemmas.Bool.{and_parts}
-use Rattle.std.proofs.lemmas.Bool.Decides.{nat_tests}
-use Rattle.std.specs.Str.{bytes_eq}
-use Rattle.matchit.specs.Seek.{has_slash}
-use Rattle.upd_wire.specs.Parameters.{segments_of}
-use Rattle.upd_wire.specs.Paths.{Part, word, any, fits, part_fits}
+use Rattle.upd_wire.proofs.Common.{◌≡◌, ◌≢◌, ℕ, ◌<◌, List, [], ◌∷◌, ◌++◌, Bool, true, false, not, nat_lt, ◌==◌, ◌&&◌, refl, sym, ap, ◌∙◌, arith, and_parts}
+use Rattle.upd_wire.proofs.Common.{nat_tests, bytes_eq, has_slash, segments_of, Part, word, any, fits, part_fits}
 use Rattle.upd_wire.proofs.SeekLemmas.{Ends, IsPlain, goes}
 use Rattle.upd_wire.proofs.PathSegmentLemmas.{HaveNoSlash, no_slash, rest_spelled, segments_spell_path, spell}
 

@@ -1,16 +1,12 @@
 -- The segments of a path.
-use Rattle.std.proofs.Common.{◌≡◌, ℕ, zero, suc, ◌+◌, ◌-◌, ◌<◌, List, [], ◌∷◌, ◌++◌, length, drop, get_or, Bool, true, false, cond, ltb, nat_eq, ◌==◌, ◌&&◌, refl, sym, ap, ◌∙◌}
-use Rattle.std.proofs.Common.{subst, arith, add-one, append-nil}
-use Rattle.std.proofs.Math.Seq.{drop-append_seam, get_or-append_seam, take-append_seam}
-use Rattle.std.proofs.lemmas.Bool.{false≢true}
-use Rattle.std.proofs.lemmas.Bool.Decides.{nat_tests}
-use Rattle.std.proofs.lemmas.List.{length-append}
+use Rattle.upd_wire.proofs.Common.{◌≡◌, ℕ, zero, suc, ◌+◌, ◌-◌, ◌<◌, List, [], ◌∷◌, ◌++◌, length, drop, get_or, Bool, true, false, cond, ltb, ◌==◌, ◌&&◌}
+use Rattle.upd_wire.proofs.Common.{refl, sym, ap, ◌∙◌, subst, arith, add-one, append-nil, drop-append_seam, take-append_seam, false≢true, nat_tests}
+use Rattle.upd_wire.proofs.Common.{length-append, IsUtf8, cuts, has_slash, segment, segments_of}
+use Rattle.std.proofs.Common.{nat_eq}
+use Rattle.std.proofs.Math.Seq.{get_or-append_seam}
 use Rattle.std.proofs.lemmas.Str.{IsCharBoundary-after_ascii, IsCharBoundary-before_ascii, IsUtf8-drop, IsUtf8-nil, IsUtf8-take}
 use Rattle.std.specs.Cmp.Lexicographic.{pointwise}
 use Rattle.std.specs.List.{ends_with, onto_first}
-use Rattle.std.specs.Str.{IsUtf8}
-use Rattle.matchit.specs.Seek.{cuts, has_slash, segment}
-use Rattle.upd_wire.specs.Parameters.{segments_of}
 
 -- segments with a slash in front of each
 abbrev pub spell : List (List ℕ) → List ℕ

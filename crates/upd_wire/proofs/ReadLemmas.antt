@@ -1,21 +1,14 @@
 -- What is read of a frame before it stops.
-use Rattle.std.proofs.Common.{◌≡◌, ℕ, ◌<◌, ◌≤◌, ◌≢◌, ◌==◌, zero, suc, false, List, [], ◌∷◌, ◌++◌, length, take, get_or, Option, Some, Result, Ok, Err, inl, inr, refl, sym, ap}
-use Rattle.std.proofs.Common.{◌∙◌, subst, arith, append_assoc, append-nil}
-use Rattle.std.proofs.lemmas.Bool.{ne_eqb, or_from}
-use Rattle.std.proofs.lemmas.List.{take_all}
-use Rattle.std.proofs.lemmas.List.Folds.{list_any-append}
-use Rattle.std.specs.Io.KnownBytes.{Consumes}
+use Rattle.upd_wire.proofs.Common.{◌≡◌, ℕ, ◌<◌, ◌≤◌, ◌≢◌, ◌==◌, zero, suc, false, List, [], ◌∷◌, ◌++◌, length, take, get_or, Option, Some, Result, Ok, Err}
+use Rattle.upd_wire.proofs.Common.{inl, inr, refl, sym, ap, ◌∙◌, subst, arith, append_assoc, append-nil, or_from, take_all, list_any-append, Consumes}
+use Rattle.upd_wire.proofs.Common.{Consumes-trans, FaultKind, BadFrame, NoMemory, Read, HeaderView, IsHeader, header_text, IsBad, IsFrame}
+use Rattle.upd_wire.specs.Header.{header_of}
+use Rattle.upd_wire.proofs.Common.{arrival_of, frame_text, has_lf, no_lf, no_end, in_run, StopsRun, Stops}
+use Rattle.std.proofs.lemmas.Bool.{ne_eqb}
 use Rattle.std.specs.Result.{IsErrAnd}
-use Rattle.std.proofs.KnownBytes.{Consumes-trans}
-use Rattle.upd_text.specs.declared.fault.FaultKind.{FaultKind}
-use Rattle.upd_text.specs.declared.fault.FaultKind.TheVariants.{BadFrame, CutFrame, NoMemory, Read}
+use Rattle.upd_text.specs.declared.fault.FaultKind.TheVariants.{CutFrame}
 use Rattle.upd_wire.specs.Inputs.{IsReadFailure}
-use Rattle.upd_wire.specs.Header.{HeaderView, IsHeader, header_of, header_text}
-use Rattle.upd_wire.specs.Frames.{IsBad, IsFrame, arrival_of, frame_text, has_lf}
-use Rattle.upd_wire.specs.Frames.IsBad.{no_lf, no_end}
-use Rattle.upd_wire.specs.Frames.IsCut.{in_run}
-use Rattle.upd_wire.specs.Exchange.{StopsEnd, StopsRun}
-use Rattle.upd_wire.specs.Spools.{Stops}
+use Rattle.upd_wire.specs.Exchange.{StopsEnd}
 use Rattle.upd_wire.proofs.FrameLemmas.{cut_is_no_frame, frame_made}
 use Rattle.upd_wire.proofs.HeaderLemmas.{header_is_spelled}
 

@@ -1,6 +1,6 @@
 -- The reasons of statuses are short.
-use Rattle.std.proofs.Common.{◌≡◌, ℕ, ◌<◌, ◌≤◌, Bool, true, false, if◌then◌else◌, ◌==◌, nat_lt, List, [], Option, Bor, length, unwrap_or, option_map, refl, Some, None, ap₂, ◌∙◌, arith}
-use Rattle.std.proofs.lemmas.Bool.{ltb-true}
+use Rattle.upd_wire.proofs.Common.{◌≡◌, ℕ, ◌<◌, ◌≤◌, Bool, true, false, if◌then◌else◌, ◌==◌, nat_lt, List, [], Option, Bor, length, unwrap_or, option_map}
+use Rattle.upd_wire.proofs.Common.{refl, Some, None, ap₂, ◌∙◌, arith, ltb-true}
 use Rattle.http.specs.StatusCode.{reason_phrase}
 use Rattle.upd_wire.specs.Statuses.{reason_of}
 
@@ -45,6 +45,7 @@ pub reason_is : (status : ℕ) (text : Option (Bor (List ℕ))) (other : Bor (Li
 unfolding reason_of
 reason_is status text other is none = shown_or text other ∙ ap₂ unwrap_or is none
   where
-    shown_or : (text : Option (Bor (List ℕ))) (other : Bor (List ℕ)) → (unwrap_or text other).now ≡ unwrap_or (option_map (λ (s : Bor (List ℕ)). s.now) text) other.now
+    shown_or : (text : Option (Bor (List ℕ))) (other : Bor (List ℕ)) → (unwrap_or text other).now
+        ≡ unwrap_or (option_map (λ (s : Bor (List ℕ)). s.now) text) other.now
     shown_or None other = refl
     shown_or (Some s) other = refl

@@ -1,20 +1,19 @@
 -- What was read of a request is what its input says.
-use Rattle.std.proofs.Common.{◌≡◌, ◌≤◌, ◌⊎◌, ◌<◌, inl, inr, ℕ, min, if◌then◌else◌, List, ◌++◌, length, take, drop, append-nil, append_assoc, Result, Ok, Err, IsErrAnd, sym, ap, ◌∙◌, arith}
-use Rattle.std.proofs.Math.Seq.{take-append_seam, take-length}
-use Rattle.std.proofs.lemmas.Bool.{cases_lt, le-leb}
-use Rattle.std.proofs.lemmas.List.{length-append, length-map, length-take-le, nil_from_length, take-append-le}
+use Rattle.upd_wire.proofs.Common.{◌≡◌, ◌≤◌, ◌⊎◌, ◌<◌, inl, inr, ℕ, if◌then◌else◌, List, ◌++◌, length, take, drop, append-nil, append_assoc, Result, Ok, Err}
+use Rattle.upd_wire.proofs.Common.{sym, ap, ◌∙◌, arith, take-append_seam, cases_lt, le-leb, length-append, length-take-le, IsRequestAt, Asked, segments_of}
+use Rattle.upd_wire.proofs.Common.{IsRead, Says, judged, Refusal, MAX_HEAD_BYTES, MAX_HEADERS}
+use Rattle.std.proofs.Common.{min, IsErrAnd}
+use Rattle.std.proofs.Math.Seq.{take-length}
+use Rattle.std.proofs.lemmas.List.{length-map, nil_from_length, take-append-le}
 use Rattle.httparse.specs.Grammar.{RequestHead}
-use Rattle.httparse.specs.Spans.{IsRequestAt, IsRequestWithin}
+use Rattle.httparse.specs.Spans.{IsRequestWithin}
 use Rattle.httparse.specs.declared.spans.HeaderSpan.{HeaderSpan}
 use Rattle.httparse.specs.declared.spans.RequestSpans.{RequestSpans}
 use Rattle.httparse.proofs.GrammarLemmas.{ReadsRequest-append}
 use Rattle.upd_text.specs.Outcome.{◌>>=◌}
-use Rattle.upd_wire.specs.Calls.{Asked, Gives, cut_frame}
-use Rattle.upd_wire.specs.Parameters.{segments_of}
-use Rattle.upd_wire.specs.Requests.{GivesUnlessFailed, IsRead, IsSmall, Says, HeadView, body_of, judged, checked_head}
+use Rattle.upd_wire.specs.Calls.{Gives, cut_frame}
+use Rattle.upd_wire.specs.Requests.{GivesUnlessFailed, IsSmall, HeadView, body_of, checked_head}
 use Rattle.upd_wire.specs.Routes.{call_of}
-use Rattle.upd_wire.specs.declared.call.Refusal.{Refusal}
-use Rattle.upd_wire.specs.declared.head.TheConstants.{MAX_HEAD_BYTES, MAX_HEADERS}
 
 -- a result that is this refusal
 pub error_is : {T : Type 0} (result : Result T Refusal) (refusal : Refusal) → IsErrAnd result (λ e. e ≡ refusal) → result ≡ Err refusal
@@ -50,21 +49,26 @@ says later buf headers spans h r outcome is =
       is,
     )
 
-pub checked_refused : {X Y : Type 0} (view : X → Asked) (seen : Y → HeadView) (buf : List ℕ) (headers : List HeaderSpan) (spans : RequestSpans) (h : RequestHead)
-    → HasRead buf headers spans h → (refusal : Refusal) → Gives seen (Err refusal) (checked_head h) → (later : List ℕ) → IsRead view (buf ++ later) (Err refusal)
+pub checked_refused : {X Y : Type 0} (view : X → Asked) (seen : Y → HeadView) (buf : List ℕ) (headers : List HeaderSpan) (spans : RequestSpans)
+    (h : RequestHead)
+    → HasRead buf headers spans h → (refusal : Refusal) → Gives seen (Err refusal) (checked_head h) → (later : List ℕ)
+    → IsRead view (buf ++ later) (Err refusal)
 checked_refused view seen buf headers spans h r refusal (inl wanting) later = inl (inl wanting)
 checked_refused view seen buf headers spans h r refusal (inr is) later =
     let rest = drop spans.len buf ++ later in
-    let F : Result HeadView Refusal → Result Asked Refusal = λ x. x >>= (λ w. body_of w.body_len rest >>= (λ body. call_of w.route (segments_of w.path) body)) in
+    let F : Result HeadView Refusal
+    → Result Asked Refusal = λ x. x >>= (λ w. body_of w.body_len rest >>= (λ body. call_of w.route (segments_of w.path) body)) in
     inr (says later buf headers spans h r (Err refusal) (sym (ap F is)))
 
 pub body_refused : {X Y : Type 0} (view : X → Asked) (items : Y → List ℕ) (buf : List ℕ) (headers : List HeaderSpan) (spans : RequestSpans) (h : RequestHead)
-    → HasRead buf headers spans h → (w : HeadView) → checked_head h ≡ Ok w → (front : List ℕ) → front ≡ drop spans.len buf → (refusal : Refusal) → (later : List ℕ)
+    → HasRead buf headers spans h → (w : HeadView) → checked_head h ≡ Ok w → (front : List ℕ) → front ≡ drop spans.len buf → (refusal : Refusal)
+    → (later : List ℕ)
     → GivesUnlessFailed items (Err refusal) (body_of w.body_len (front ++ later)) → IsRead view (buf ++ later) (Err refusal)
 body_refused view items buf headers spans h r w is front same refusal later (inl failed) = inl failed
 body_refused view items buf headers spans h r w is front same refusal later (inr none) =
     let rest = drop spans.len buf ++ later in
-    let F : Result HeadView Refusal → Result Asked Refusal = λ x. x >>= (λ w. body_of w.body_len rest >>= (λ body. call_of w.route (segments_of w.path) body)) in
+    let F : Result HeadView Refusal
+    → Result Asked Refusal = λ x. x >>= (λ w. body_of w.body_len rest >>= (λ body. call_of w.route (segments_of w.path) body)) in
     let G : Result (List ℕ) Refusal → Result Asked Refusal = λ x. x >>= (λ body. call_of w.route (segments_of w.path) body) in
     inr (says later buf headers spans h r (Err refusal) (sym (ap F is ∙ ap G (ap (λ l. body_of w.body_len (l ++ later)) (sym same) ∙ none))))
 
@@ -79,7 +83,8 @@ call_read {X = X} view items buf headers spans h r w is front same body later wh
 
     judged_is : judged h rest ≡ call_of w.route (segments_of w.path) (items body)
     judged_is =
-        let F : Result HeadView Refusal → Result Asked Refusal = λ x. x >>= (λ w. body_of w.body_len rest >>= (λ body. call_of w.route (segments_of w.path) body)) in
+        let F : Result HeadView Refusal
+        → Result Asked Refusal = λ x. x >>= (λ w. body_of w.body_len rest >>= (λ body. call_of w.route (segments_of w.path) body)) in
         let G : Result (List ℕ) Refusal → Result Asked Refusal = λ x. x >>= (λ body. call_of w.route (segments_of w.path) body) in
         ap F is ∙ ap G (ap (λ l. body_of w.body_len (l ++ later)) (sym same) ∙ whole)
 

@@ -1,20 +1,14 @@
 -- The router's routes in plain words.
-use Rattle.std.proofs.Common.{◌≡◌, inl, inr, ℕ, suc, List, [], ◌∷◌, ◌++◌, length, drop, map, get_or, Option, Some, None, Bool, true, false}
-use Rattle.std.proofs.Common.{◌&&◌, if◌then◌else◌, ltb, ◌==◌, refl, sym, ap, ap₂, ◌∙◌, subst, arith, codes, option_map, Fits, w8}
-use Rattle.std.proofs.lemmas.Bool.{and_parts, false≢true, ltb-true}
-use Rattle.std.proofs.lemmas.Slice.Eq.{bytes_eq-Decides}
-use Rattle.std.proofs.lemmas.Str.{IsUtf8-from_is_utf8}
-use Rattle.std.specs.List.{zip}
-use Rattle.std.specs.Str.{IsUtf8, bytes_eq, chars, is_utf8}
+use Rattle.upd_wire.proofs.Common.{◌≡◌, inl, inr, ℕ, suc, List, [], ◌∷◌, ◌++◌, length, drop, map, get_or, Option, Some, None, Bool, true, false, ◌&&◌}
+use Rattle.upd_wire.proofs.Common.{if◌then◌else◌, ltb, ◌==◌, refl, sym, ap, ap₂, ◌∙◌, subst, arith, codes, option_map, and_parts, false≢true, ltb-true}
+use Rattle.upd_wire.proofs.Common.{bytes_eq-Decides, IsUtf8-from_is_utf8, zip, IsUtf8, bytes_eq, AllText, part_of, walk, RouteOf, RowsOf, first}
+use Rattle.std.specs.Str.{is_utf8}
+use Rattle.upd_wire.proofs.Common.{segments_of, AreBytes, Part, word, fits, part_fits, parameters_of, routes, Route}
+use Rattle.std.proofs.Common.{Fits, w8}
+use Rattle.std.specs.Str.{chars}
 use Rattle.matchit.proofs.OnLiterals.{matchit_on_literals}
-use Rattle.matchit.specs.Params.{AllText, part_of, walk}
-use Rattle.matchit.specs.Router.{RouteOf}
-use Rattle.matchit.specs.Rows.{RowsOf}
-use Rattle.matchit.specs.Seek.{first}
-use Rattle.upd_wire.specs.Parameters.{segments_of}
-use Rattle.upd_wire.specs.Paths.{AreBytes, ArePlain, Part, word, fits, part_fits, parts_of}
-use Rattle.upd_wire.specs.Routes.{parameters_of, route_of, routes}
-use Rattle.upd_wire.specs.declared.routes.Route.{Route}
+use Rattle.upd_wire.specs.Paths.{ArePlain, parts_of}
+use Rattle.upd_wire.specs.Routes.{route_of}
 use Rattle.upd_wire.specs.declared.routes.Route.TheVariants as route
 use Rattle.upd_wire.proofs.CaptureLemmas.{captures_taken, parameter_count, taken}
 use Rattle.upd_wire.proofs.PathLemmas.{are_words, path_goes, tails, tails_are_plain}
@@ -92,7 +86,8 @@ length_fits [] (s ∷ segments) is = absurd (false≢true is)
 length_fits (part ∷ parts) [] is = absurd (false≢true is)
 length_fits (part ∷ parts) (s ∷ segments) is = ap suc (length_fits parts segments (and_parts (part_fits part s) (fits parts segments) is).1)
 
-second_fits : (part : Part) (w : List ℕ) (parts : List Part) (segments : List (List ℕ)) → fits (part ∷ word w ∷ parts) segments ≡ true → get_or segments 1 [] ≡ w
+second_fits : (part : Part) (w : List ℕ) (parts : List Part) (segments : List (List ℕ)) → fits (part ∷ word w ∷ parts) segments ≡ true → get_or segments 1 []
+    ≡ w
 second_fits part w parts [] is = absurd (false≢true is)
 second_fits part w parts (s ∷ []) is = absurd (false≢true (and_parts (part_fits part s) false is).1)
 second_fits part w parts (s ∷ t ∷ segments) is =
@@ -112,7 +107,8 @@ route_by n w =
 by_second : (r : Route) (w : List ℕ) → parts_of r ≡ word [] ∷ word w ∷ drop 2 (parts_of r) → route_by (length (parts_of r)) w ≡ r
     → (segments : List (List ℕ)) → fits (parts_of r) segments ≡ true → route_by (length segments) (get_or segments 1 []) ≡ r
 by_second r w is by segments fit =
-    ap₂ route_by (length_fits (parts_of r) segments fit) (second_fits (word []) w (drop 2 (parts_of r)) segments (sym (ap (λ l. fits l segments) is) ∙ fit)) ∙ by
+    ap₂ route_by (length_fits (parts_of r) segments fit) (second_fits (word []) w (drop 2 (parts_of r)) segments (sym (ap (λ l. fits l segments) is) ∙ fit))
+    ∙ by
 
 fits_by : (r : Route) (segments : List (List ℕ)) → fits (parts_of r) segments ≡ true → route_by (length segments) (get_or segments 1 []) ≡ r
 unfolding route_by

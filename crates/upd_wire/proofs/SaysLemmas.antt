@@ -1,9 +1,7 @@
 -- What an input asks of the desk.
-use Rattle.std.proofs.Common.{◌≡◌, ℕ, List, inl, inr, Result, Ok, sym, ap₂, ◌∙◌}
+use Rattle.upd_wire.proofs.Common.{◌≡◌, ℕ, List, inl, inr, Result, Ok, sym, ap₂, ◌∙◌, Asked, Says, judged, Refusal}
 use Rattle.httparse.proofs.GrammarLemmas.{request_unique}
-use Rattle.upd_wire.specs.Calls.{Asked}
-use Rattle.upd_wire.specs.Requests.{HasCutHead, Says, judged}
-use Rattle.upd_wire.specs.declared.call.Refusal.{Refusal}
+use Rattle.upd_wire.specs.Requests.{HasCutHead}
 
 same_ok : {a b : Asked} (outcome : Result Asked Refusal) → Ok a ≡ outcome → Ok b ≡ outcome → a ≡ b
 same_ok outcome first second = cc

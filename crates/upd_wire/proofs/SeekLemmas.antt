@@ -1,16 +1,11 @@
 -- What a router finds: the one row that a path goes by, token for token.
-use Rattle.std.proofs.Common.{◌≡◌, ◌⊎◌, inl, inr, ℕ, zero, suc, ◌-◌, ◌<◌, ◌≤◌, List, [], ◌∷◌, ◌++◌, length, drop, Option, Some, None, Bool, true, false, cond}
-use Rattle.std.proofs.Common.{not, ◌&&◌, refl, sym, ap, ap₂, ◌∙◌, subst, arith, append-nil, ◌==◌, ltb}
-use Rattle.std.proofs.Math.Seq.{drop-append_seam, drop-length}
-use Rattle.std.proofs.lemmas.Bool.{false≢true}
-use Rattle.std.proofs.lemmas.Bool.Decides.{nat_tests}
-use Rattle.std.proofs.lemmas.List.{length-append}
-use Rattle.matchit.specs.Rows.{RowsOf}
-use Rattle.matchit.specs.Seek.{better, cuts, has_slash, longest_from, longest_suffix, or_else, own, param_step, same_text, seek, segment, step}
-use Rattle.matchit.specs.Seek.{with_suffix}
-use Rattle.upd_wire.specs.Paths.{AreBytes}
-use Rattle.upd_wire.proofs.PathSegmentLemmas.{HaveNoSlash, cut_at_slash, no_slash, rest_of, rest_spelled, segment_all, segment_whole, segments_spell_path, slash_in}
-use Rattle.upd_wire.proofs.PathSegmentLemmas.{spell, uncut}
+use Rattle.upd_wire.proofs.Common.{◌≡◌, ◌⊎◌, inl, inr, ℕ, zero, suc, ◌-◌, ◌<◌, ◌≤◌, List, [], ◌∷◌, ◌++◌, length, drop, Option, Some, None, Bool, true, false}
+use Rattle.upd_wire.proofs.Common.{cond, not, ◌&&◌, refl, sym, ap, ap₂, ◌∙◌, subst, arith, append-nil, ◌==◌, ltb, drop-append_seam, false≢true, nat_tests}
+use Rattle.upd_wire.proofs.Common.{length-append, RowsOf, cuts, has_slash, segment, AreBytes}
+use Rattle.std.proofs.Math.Seq.{drop-length}
+use Rattle.matchit.specs.Seek.{better, longest_from, longest_suffix, or_else, own, param_step, same_text, seek, step, with_suffix}
+use Rattle.upd_wire.proofs.PathSegmentLemmas.{HaveNoSlash, cut_at_slash, no_slash, rest_of, rest_spelled, segment_all, segment_whole, segments_spell_path}
+use Rattle.upd_wire.proofs.PathSegmentLemmas.{slash_in, spell, uncut}
 
 -- whether a path goes by tokens: a parameter takes all up to the next slash, and at least a byte
 abbrev pub goes : List ℕ → List ℕ → Bool
@@ -158,7 +153,8 @@ module _ {K : Type 0} where
       ap (λ s. longest_from seg (better seg (47 ∷ []) s) rows) (segment_tail x t (ends (x ∷ t) k (inl (refl, refl))))
       ∙ longest_found seg rows (λ u key has. ends u key (inr has))
 
-  longest_is : (seg : List ℕ) (v : Bool) → cuts seg (47 ∷ []) ≡ v → (rows : RowsOf K) → AllEnd rows → longest_suffix seg rows ≡ cond (v && any_tail rows) (47 ∷ []) []
+  longest_is : (seg : List ℕ) (v : Bool) → cuts seg (47 ∷ []) ≡ v → (rows : RowsOf K) → AllEnd rows → longest_suffix seg rows
+      ≡ cond (v && any_tail rows) (47 ∷ []) []
   longest_is seg true cut [] ends = refl
   longest_is seg false cut [] ends = refl
   longest_is seg v cut (([], k) ∷ rows) ends = longest_is seg v cut rows (λ u key has. ends u key (inr has))
@@ -199,7 +195,8 @@ module _ {K : Type 0} where
       longest v = cond v (47 ∷ []) []
 
       step_is : (v : Bool) → any_tail rows ≡ v
-          → param_step rows (b ∷ path) ≡ cond (ltb 0 (length (longest v))) (length (b ∷ s ++ 47 ∷ []) - length (longest v), with_suffix (longest v) rows) (0, [])
+          → param_step rows (b ∷ path) ≡ cond (ltb 0 (length (longest v))) (length (b ∷ s ++ 47 ∷ []) - length (longest v), with_suffix (longest v) rows)
+          (0, [])
       step_is v e =
           param_is (b ∷ path) rows (b ∷ s ++ 47 ∷ []) (longest v) true (segment_whole (b ∷ s) (t ++ spell segments) none)
           (longest_is (b ∷ s ++ 47 ∷ []) true (cut_at_slash b s) rows ends ∙ ap longest e) (slash_in (b ∷ s) (t ++ spell segments))
@@ -213,7 +210,8 @@ module _ {K : Type 0} where
           let place : length (b ∷ s ++ 47 ∷ []) - 1 - 1 ≡ length s = omega (arith, length-append s (47 ∷ [])) in
           let found = later (length s) kept (λ u key has. plain u key (suffix_has (47 ∷ []) u key rows has)) in
           let Ahead : List ℕ → Type 0 = λ l. Finds (λ u. goes u l) kept (seek (length s) kept path) in
-          let there = suffix_finds (t ++ spell segments) rows ends (seek (length s) kept path) (subst Ahead (drop-append_seam s (spell (t ∷ segments))) found) in
+          let there = suffix_finds (t ++ spell segments) rows ends (seek (length s) kept path)
+          (subst Ahead (drop-append_seam s (spell (t ∷ segments))) found) in
           let At : ℕ → Type 0 = λ n. Finds (λ u. goes u (spell (t ∷ segments))) rows (seek n kept path) in
           subst Answer (sym (step_is true e)) (subst At (sym place) there)
       by false e =

@@ -1,25 +1,23 @@
 -- A desk that serves calls holds the journal that goes on with them.
-use Rattle.std.proofs.Common.{◌≡◌, ℕ, List, [], ◌∷◌, Some, None, Result, Ok, Err, refl, sym, subst}
-use Rattle.std.specs.Result.{result_map_both}
-use Rattle.upd_text.specs.declared.fault.Fault.{Fault}
-use Rattle.upd_row_store.specs.declared.meaning.Meaning.{Ghosts}
+use Rattle.upd_wire.proofs.Common.{◌≡◌, ℕ, List, [], ◌∷◌, Some, None, Result, Ok, Err, refl, sym, subst, result_map_both, Fault, Ghosts, HoldsIn, IsLeft}
+use Rattle.upd_wire.proofs.Common.{after, in_hand_after, Event, Journal, Settled, ReplyView, Asked, run, settle, compile, deck, card, idents, yanks, Response}
+use Rattle.upd_wire.proofs.Common.{reply_response, DoesAsAsked, IsMarkResponse, LeadsThrough, Made}
 use Rattle.upd_row_store.specs.Keeping.{Keeps}
 use Rattle.upd_desk.specs.Arrivals.{arrival_view}
-use Rattle.upd_desk.specs.Holding.{Guards, HoldsIn, IsLeft, after, after_settlement, in_hand_after, in_hand_after_settlement}
-use Rattle.upd_desk.specs.Journal.{Came, Event, Journal, Settled}
-use Rattle.upd_desk.specs.Outcomes.{ReplyView}
-use Rattle.upd_wire.specs.Calls.{Asked, run, settle, compile, deck, card, idents, yanks}
-use Rattle.upd_wire.specs.Responses.{Response, reply_response}
+use Rattle.upd_desk.specs.Holding.{Guards, after_settlement, in_hand_after_settlement}
+use Rattle.upd_desk.specs.Journal.{Came}
 use Rattle.upd_wire.specs.Served.{after_call, after_calls, after_mark, after_run, in_hand_after_call, in_hand_after_calls, in_hand_with}
-use Rattle.upd_wire.specs.Serving.{DoesAsAsked, IsMarkResponse, Leads, LeadsThrough, Made}
+use Rattle.upd_wire.specs.Serving.{Leads}
 
 -- the journal and what is in hand after a call, as the desk says it and as its answer says it
 run_after : (journal : Journal) (site : List ℕ) (number : ℕ) (mode bytes : List ℕ) (result : Result ReplyView Fault) (told : Result Response Fault)
     → told ≡ result_map_both reply_response (λ fault. fault) result
     → after journal (arrival_view site number mode bytes) result ≡ after_run journal (Came (arrival_view site number mode bytes)) told
-run_after journal site number mode bytes (Ok reply) told same = subst (λ t. Came (arrival_view site number mode bytes) ∷ journal ≡ after_run journal (Came (arrival_view site number mode bytes)) t) (sym same) refl
+run_after journal site number mode bytes (Ok reply) told same =
+    subst (λ t. Came (arrival_view site number mode bytes) ∷ journal ≡ after_run journal (Came (arrival_view site number mode bytes)) t) (sym same) refl
 run_after journal site number mode bytes (Err fault) told same =
-    subst (λ t. after journal (arrival_view site number mode bytes) (Err fault) ≡ after_run journal (Came (arrival_view site number mode bytes)) t) (sym same) refl
+    subst (λ t. after journal (arrival_view site number mode bytes) (Err fault) ≡ after_run journal (Came (arrival_view site number mode bytes)) t)
+    (sym same) refl
 
 run_in_hand : (in_hand : List Event) (site : List ℕ) (number : ℕ) (mode bytes : List ℕ) (result : Result ReplyView Fault) (told : Result Response Fault)
     → told ≡ result_map_both reply_response (λ fault. fault) result

@@ -1,26 +1,18 @@
 -- What one frame does, and further frames behind it.
-use Rattle.std.proofs.Common.{◌≡◌, ℕ, ◌+◌, ◌<◌, ◌≤◌, ◌≢◌, true, ◌⊎◌, inl, inr, IsTrue, List, [], ◌∷◌, ◌++◌, length, Option, Result, Err}
-use Rattle.std.proofs.Common.{refl, sym, ap, ap₂, ◌∙◌, subst, arith, rules, append_assoc, append-nil, length-append}
-use Rattle.std.specs.Io.KnownBytes.{Appends, Consumes}
-use Rattle.std.proofs.KnownBytes.{Appends-nil, Appends-trans, Consumes-trans}
-use Rattle.std.proofs.lemmas.Bool.{false≢true}
-use Rattle.std.proofs.lemmas.List.Concat.{flat_map-append}
+use Rattle.upd_wire.proofs.Common.{◌≡◌, ℕ, ◌+◌, ◌<◌, ◌≤◌, ◌≢◌, true, ◌⊎◌, inl, inr, IsTrue, List, [], ◌∷◌, ◌++◌, length, Option, Result, Err, refl, sym, ap}
+use Rattle.upd_wire.proofs.Common.{ap₂, ◌∙◌, subst, arith, rules, append_assoc, append-nil, Appends, Consumes, Appends-nil, Appends-trans, Consumes-trans}
+use Rattle.upd_wire.proofs.Common.{false≢true, flat_map-append, Fault, FaultKind, NoMemory, BadFrame, Read, Ghosts, ArrivalView, ReplyView, Arrives}
+use Rattle.upd_wire.proofs.Common.{MAX_FRAMES, IsBad, IsFrame, frame_text, frames_text, Answered, Stops}
+use Rattle.upd_wire.specs.Frames.{frame_of}
+use Rattle.std.proofs.Common.{length-append}
 use Rattle.std.proofs.lemmas.List.Elements.{All-append, All-nil, All-push}
-use Rattle.upd_text.specs.declared.fault.Fault.{Fault}
-use Rattle.upd_text.specs.declared.fault.FaultKind.{FaultKind}
-use Rattle.upd_text.specs.declared.fault.FaultKind.TheVariants.{NoMemory, Store, BadFrame, Read, Write}
-use Rattle.upd_row_store.specs.declared.meaning.Meaning.{Ghosts}
+use Rattle.upd_text.specs.declared.fault.FaultKind.TheVariants.{CutFrame, Store, Write}
 use Rattle.upd_row_store.specs.Keeping.{MoreFailures, failures_with}
 use Rattle.upd_row_store.proofs.KeepingLemmas.{counts_more}
 use Rattle.upd_desk.specs.Answers.{answer_line, is_answered}
-use Rattle.upd_desk.specs.Arrivals.{ArrivalView}
-use Rattle.upd_desk.specs.Outcomes.{ReplyView}
-use Rattle.upd_desk.specs.Holding.{Arrives, is_lost}
-use Rattle.upd_wire.specs.declared.frames.TheConstants.{MAX_FRAMES}
-use Rattle.upd_wire.specs.Frames.{IsBad, IsFrame, frame_of, frame_text, frames_text}
+use Rattle.upd_desk.specs.Holding.{is_lost}
 use Rattle.upd_wire.specs.Exchange.{StopsNothing, LeavesNoLine}
-use Rattle.upd_wire.specs.Spools.{Answered, EndsBy, GetsNoLine, Handled, LosesOne, Stops, WritesFront}
-use Rattle.upd_wire.specs.Spools.{answer_lines}
+use Rattle.upd_wire.specs.Spools.{EndsBy, GetsNoLine, Handled, LosesOne, WritesFront, answer_lines}
 use Rattle.upd_wire.proofs.ArrivalLemmas.{further_arrived, none_arrived, one_arrived}
 use Rattle.upd_wire.proofs.FrameLemmas.{no_lf_no_frame}
 
@@ -95,6 +87,8 @@ module _ {S : Type 0} (meaning : Ghosts S) where
       (taken, nothing_answered s input input' output taken consumed, inl bad)
   stopped NoMemory s input input' output taken consumed stops =
       inl (taken, nothing_answered s input input' output taken consumed, stops)
+  stopped CutFrame s input input' output taken consumed stops =
+      (taken, nothing_answered s input input' output taken consumed, stops, omega arith)
   stopped Store s input input' output taken consumed stops = absurd stops
   stopped Write s input input' output taken consumed stops = absurd stops
   stopped _ s input input' output taken consumed stops =
@@ -256,4 +250,5 @@ module _ {S : Type 0} {meaning : Ghosts S} where
         by : (taken : List ℕ) → IsBad taken ⊎ ((0 ≡ MAX_FRAMES) × (taken ≢ [])) → IsBad taken ⊎ ((length frames ≡ MAX_FRAMES) × (taken ≢ []))
         by taken (inl bad) = inl bad
         by taken (inr (none, some)) = absurd (omega (arith, none))
+    ends_further CutFrame frames results few first end = (end.0, bytes_more frames results end.0 first end.1, end.2, few)
     ends_further _ frames results few first end = (end.0, bytes_more frames results end.0 first end.1, end.2)

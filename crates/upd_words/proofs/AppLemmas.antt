@@ -10,5 +10,6 @@ pub with_command : (old sub new : Command) {app : App} {shape : Shape} → app_o
     → (fields_of sub).has_globals ≡ false → AddsSubcommand old sub new → app_of new ≡ with_subcommand app shape
 with_command old sub new was is local adds = adds.shape local ∙ ap₂ with_subcommand was (ap (λ (a : App). a.top) is)
 
-pub with_more : (was new : Command) (shape : Shape) {app : App} → app_of was ≡ app → app_of new ≡ with_subcommand (app_of was) shape → app_of new ≡ with_subcommand app shape
+pub with_more : (was new : Command) (shape : Shape) {app : App} → app_of was ≡ app → app_of new ≡ with_subcommand (app_of was) shape → app_of new
+    ≡ with_subcommand app shape
 with_more was new shape is adds = adds ∙ ap (λ a. with_subcommand a shape) is

@@ -1,5 +1,6 @@
 -- A command line of `serve` that is read has a COUNT within its range.
-use Rattle.std.proofs.Common.{◌≡◌, ◌∷◌, ◌++◌, ◌&&◌, ◌||◌, ℕ, Bool, true, false, not, if◌then◌else◌, List, [], codes, drop, find, get_or, length, take, true≢false, Option, Some, None, IfSome, option_map, unwrap_or, refl, sym, subst, ap, ◌∙◌}
+use Rattle.std.proofs.Common.{◌≡◌, ◌∷◌, ◌++◌, ◌&&◌, ◌||◌, ℕ, Bool, true, false, not, if◌then◌else◌, List, [], codes, drop, find, get_or, length, take}
+use Rattle.std.proofs.Common.{true≢false, Option, Some, None, IfSome, option_map, unwrap_or, refl, sym, subst, ap, ◌∙◌}
 use Rattle.std.specs.List.{list_all}
 use Rattle.std.specs.Option.{option_map_or}
 use Rattle.std.specs.Str.{bytes_eq}
@@ -16,8 +17,7 @@ use Rattle.clap.specs.declared.builder.value_parser.ValueParser.TheVariants.{Uns
 use Rattle.clap.specs.declared.error.kind.ErrorKind.{ErrorKind}
 use Rattle.clap.specs.declared.error.kind.ErrorKind.TheVariants.{InvalidValue, MissingRequiredArgument, ValueValidation}
 use Rattle.clap.proofs.ValueTestLemmas.{accepts-Accepts}
-use Rattle.upd_words.specs.Words.{SpellsCount}
-use Rattle.upd_words.specs.Words.{HasCount, upd_app, word_faults}
+use Rattle.upd_words.specs.Words.{SpellsCount, HasCount, upd_app, word_faults}
 use Rattle.upd_words.proofs.PassedLemmas.{AllKeep, FirstPasses, KeepsPassing, both_pass, level_passes, set_keeps}
 
 -- the word is within the range of COUNT

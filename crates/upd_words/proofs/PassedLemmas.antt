@@ -1,16 +1,25 @@
 -- Where a command's words have no fault, the first value of each row of an id has passed the test of that id's argument.
-use Rattle.std.proofs.Common.{◌≡◌, ◌&&◌, ◌∷◌, ◌++◌, ℕ, zero, suc, Bool, true, false, not, if◌then◌else◌, List, [], length, drop, find, fold, Option, Some, None, IfSome, is_some, option_and_then, refl, sym, subst, ap, ◌∙◌}
+use Rattle.std.proofs.Common.{◌≡◌, ◌&&◌, ◌∷◌, ◌++◌, ℕ, zero, suc, Bool, true, false, not, if◌then◌else◌, List, [], length, drop, find, fold, Option, Some}
+use Rattle.std.proofs.Common.{None, IfSome, is_some, option_and_then, refl, sym, subst, ap, ◌∙◌}
 use Rattle.std.specs.Option.{option_map_or}
 use Rattle.std.specs.Prelude.{encode_utf8, slice_get}
 use Rattle.std.specs.Str.{bytes_eq, chars}
 use Rattle.std.proofs.lemmas.Slice.Eq.{bytes_eq-Decides}
 use Rattle.clap.specs.Facts.{explicit_source}
-use Rattle.clap.specs.Faults.{bundle_step_fault, check_fault, defaults_fault, flag_word_fault, flags_fault, level_fault, long_fault, option_fault, other_fault, positional_fault, react_fault, settle_fault, short_fault, step_fault, stray_fault, turn_fault, use_fault, walk_fault, word_fault}
+use Rattle.clap.specs.Faults.{bundle_step_fault, check_fault, defaults_fault, flag_word_fault, flags_fault, level_fault, long_fault, option_fault}
+use Rattle.clap.specs.Faults.{other_fault, positional_fault, react_fault, settle_fault, short_fault, step_fault, stray_fault, turn_fault, use_fault}
+use Rattle.clap.specs.Faults.{walk_fault, word_fault}
 use Rattle.clap.specs.Kinds.{Kinds, or_else}
 use Rattle.clap.specs.Lexer.{long_of, short_of}
 use Rattle.clap.specs.Simple.{Shape}
 use Rattle.clap.specs.Takes.{is_given}
-use Rattle.clap.specs.Walk.{Held, Names, Outcome, Row, Rule, Step, Text, Waiting, Walk, action_of, after_flag, after_step, arg_by_id, arg_by_index, arg_by_long, arg_by_short, at_row, attached_value, bundle, bundle_met, bundle_step, default_rows, done, finished, first_of, flag_met, has_long, has_row, has_short, idle, is_pending, long_met, long_or_other, more_values, next, nothing_held, option, option_met, option_word, plain, plain_word, positional, reacted, reading_by, refused, rows_after, settled, settled_rows, short_met, short_or_plain, subcommand, subcommand_met, subcommand_or_other, takes_several, takes_values, to_positional, trailing, used, used_as, used_by_id, value, values_or_missing, waits, walk, walk_from, walked, walked_from, with_default, with_values, without, word_met}
+use Rattle.clap.specs.Walk.{Held, Names, Outcome, Row, Rule, Step, Text, Waiting, Walk, action_of, after_flag, after_step, arg_by_id, arg_by_index}
+use Rattle.clap.specs.Walk.{arg_by_long, arg_by_short, at_row, attached_value, bundle, bundle_met, bundle_step, default_rows, done, finished, first_of}
+use Rattle.clap.specs.Walk.{flag_met, has_long, has_row, has_short, idle, is_pending, long_met, long_or_other, more_values, next, nothing_held, option}
+use Rattle.clap.specs.Walk.{option_met, option_word, plain, plain_word, positional, reacted, reading_by, refused, rows_after, settled, settled_rows}
+use Rattle.clap.specs.Walk.{short_met, short_or_plain, subcommand, subcommand_met, subcommand_or_other, takes_several, takes_values, to_positional, trailing}
+use Rattle.clap.specs.Walk.{used, used_as, used_by_id, value, values_or_missing, waits, walk, walk_from, walked, walked_from, with_default, with_values}
+use Rattle.clap.specs.Walk.{without, word_met}
 use Rattle.clap.specs.declared.builder.action.ArgAction.TheVariants.{Set}
 use Rattle.clap.specs.declared.builder.value_parser.Reading.{Reading}
 use Rattle.clap.specs.declared.error.kind.ErrorKind.TheVariants.{TooManyValues}
@@ -180,14 +189,16 @@ module _ (id : Text) (P : Text → Type 0) where
         → Passes (long_or_other s.rules waiting word (long_of word) h).0.rows
     flag_word_passes waiting word h none p = of (long_of word) none
       where
-        short : (o : Option Text) → option_map_or (λ flags. flags_fault s.rules s.args_override_self (length flags) flags h.skip (record h { skip = 0 })) o [] ≡ []
+        short : (o : Option Text) → option_map_or (λ flags. flags_fault s.rules s.args_override_self (length flags) flags h.skip (record h { skip = 0 })) o []
+            ≡ []
             → Passes (short_or_plain s.rules waiting word o h).0.rows
         short None e = plain_passes waiting word h p
         short (Some flags) e =
             after_flag_passes waiting word (bundle s.rules flags h).0 (bundle s.rules flags h).1
             (bundle_passes (length flags) flags h.skip plain (record h { skip = 0 }) e p)
 
-        of : (o : Option (Text × Option Text)) → flag_word_fault s.rules s.args_override_self o word h ≡ [] → Passes (long_or_other s.rules waiting word o h).0.rows
+        of : (o : Option (Text × Option Text)) → flag_word_fault s.rules s.args_override_self o word h ≡ []
+            → Passes (long_or_other s.rules waiting word o h).0.rows
         of None e = short (short_of word) e
         of (Some x) e =
             let met = long_met s.rules (arg_by_long s.rules x.0) x.1 h in
@@ -240,7 +251,8 @@ module _ (id : Text) (P : Text → Type 0) where
             let both = both_pass (word_fault s names w.is_trailing w.waiting word w.held) (step_fault s w.position met.0 met.1) e in
             step_passes word w met.0 met.1 both.1 (word_passes w.is_trailing w.waiting w.position word w.held both.0 p)
 
-    pub walk_passes : (w : Walk) (words : List Text) → walk_fault s names w words ≡ [] → Passes w.held.rows → Passes (fold (walked s.rules names) w words).held.rows
+    pub walk_passes : (w : Walk) (words : List Text) → walk_fault s names w words ≡ [] → Passes w.held.rows
+        → Passes (fold (walked s.rules names) w words).held.rows
     unfolding walk_fault
     walk_passes w [] none p = p
     walk_passes w (word ∷ words) none p =

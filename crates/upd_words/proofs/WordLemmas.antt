@@ -1,5 +1,6 @@
 -- The command lines of `trial` are read, and a command that was entered is one of the program's.
-use Rattle.std.proofs.Common.{◌≡◌, ◌⊎◌, inl, inr, if◌then◌else◌, Bool, true, false, List, [], ◌∷◌, ◌++◌, ◌||◌, codes, drop, find, get_or, length, Option, Some, None, IfSome, option_and_then, option_map, refl, subst, sym, take, true≢false}
+use Rattle.std.proofs.Common.{◌≡◌, ◌⊎◌, inl, inr, if◌then◌else◌, Bool, true, false, List, [], ◌∷◌, ◌++◌, ◌||◌, codes, drop, find, get_or, length, Option}
+use Rattle.std.proofs.Common.{Some, None, IfSome, option_and_then, option_map, refl, subst, sym, take, true≢false}
 use Rattle.clap.specs.Faults.{fault_of}
 use Rattle.clap.specs.Lexer.{long_of, short_of}
 use Rattle.clap.specs.Simple.{argument_words, built, label_of, names_of, new_shape, rows_at}
@@ -48,13 +49,15 @@ pub no_flag : (word : Text) → IsPlain word → IsNoFlag word
 no_flag [] plain = record { long = refl; short = refl; dashes = refl }
 no_flag (b ∷ bs) plain = record { long = simp plain refl; short = simp plain refl; dashes = simp plain refl }
 
-pub count_accepted : (parser : ValueParser) (name file address count : Text) → IsNoFlag file → IsNoFlag address → IsNoFlag count → accepts false parser count ≡ true
+pub count_accepted : (parser : ValueParser) (name file address count : Text) → IsNoFlag file → IsNoFlag address → IsNoFlag count → accepts false parser count
+    ≡ true
     → fault_of (with_count parser) (name ∷ codes "serve" ∷ file ∷ address ∷ count ∷ []) ≡ []
 unfolding clap_on_literals
 count_accepted parser name file address count f a c is =
     simp (f.long, f.short, f.dashes) (simp (a.long, a.short, a.dashes) (simp (c.long, c.short, c.dashes) (rw is refl)))
 
-pub count_refused : (parser : ValueParser) (name file address count : Text) → IsNoFlag file → IsNoFlag address → IsNoFlag count → accepts false parser count ≡ false
+pub count_refused : (parser : ValueParser) (name file address count : Text) → IsNoFlag file → IsNoFlag address → IsNoFlag count → accepts false parser count
+    ≡ false
     → fault_of (with_count parser) (name ∷ codes "serve" ∷ file ∷ address ∷ count ∷ []) ≡ refused_kind parser ∷ []
 unfolding clap_on_literals
 count_refused parser name file address count f a c is =

@@ -1,22 +1,12 @@
 -- The rows of a card and of a target after row changes that are right of a library.
-use Rattle.std.proofs.Common.{◌≡◌, ℕ, Bool, true, false, not, ◌||◌, cond, List, [], ◌∷◌, ◌++◌, Some, refl, ap}
-use Rattle.std.proofs.Common.{sym, ◌∙◌, append-nil}
-use Rattle.std.specs.Prelude.{◌==◌}
-use Rattle.std.specs.List.{filter, list_any, AllByRecursion}
-use Rattle.std.proofs.lemmas.List.Elements.{filter-append}
-use Rattle.upd_text.specs.declared.card_ref.CardRef.{CardRef}
-use Rattle.upd_core.proofs.CountedLemmas.{same_target}
-use Rattle.upd_core.specs.declared.target.Target.{Target}
-use Rattle.upd_core.specs.Library.{LibraryView}
-use Rattle.upd_core.specs.Status.{status_of}
-use Rattle.upd_core.specs.TargetCounts.{live_count}
-use Rattle.upd_core.specs.Targets.{is_same}
-use Rattle.upd_records.specs.Changes.{ChangeView, IdentNew, IdentPurged, CardNew, CardGone, CardsMoved, EntryNew, EntriesGone, TargetNew, TargetsGone}
-use Rattle.upd_records.specs.Changes.{StatusNow, CountNow, done, done_all, with_status}
+use Rattle.upd_yank.proofs.Common.{◌≡◌, ℕ, Bool, true, false, not, ◌||◌, cond, List, [], ◌∷◌, ◌++◌, Some, refl, ap, sym, ◌∙◌, append-nil, ◌==◌, filter}
+use Rattle.upd_yank.proofs.Common.{list_any, AllByRecursion, filter-append, CardRef, same_target, Target, LibraryView, status_of, live_count, is_same}
+use Rattle.upd_yank.proofs.Common.{ChangeView, IdentNew, IdentPurged, CardNew, CardGone, CardsMoved, EntryNew, EntriesGone, TargetNew, TargetsGone, StatusNow}
+use Rattle.upd_yank.proofs.Common.{CountNow, done_all, Rows, count_rows, same_ref, state_rows, same_ref_is}
+use Rattle.upd_records.specs.Changes.{done, with_status}
 use Rattle.upd_records.proofs.StatusLemmas.{status_set}
-use Rattle.upd_records.specs.Rows.{CountRow, Rows, StateRow, count_rows, same_ref, state_rows}
+use Rattle.upd_records.specs.Rows.{CountRow, StateRow}
 use Rattle.upd_diff.proofs.StateLemmas.{filter_gone, filter_kept, states_gone, states_kept}
-use Rattle.upd_records.proofs.EqualLemmas.{same_ref_is}
 
 -- ---- changes that set statuses and counts of a library
 

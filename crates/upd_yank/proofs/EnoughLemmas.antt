@@ -1,21 +1,8 @@
 -- A status update is the same on a part of a library as on the whole, where the decks left out are idle.
-use Rattle.std.proofs.Common.{◌≡◌, ◌+◌, Bool, true, false, not, cond, List, [], ◌∷◌, ◌++◌, map, length, None, inl, inr, refl, ap, sym, ◌∙◌}
-use Rattle.std.proofs.Common.{subst, arith}
-use Rattle.std.specs.List.{filter, flat_map, AllByRecursion}
-use Rattle.std.proofs.lemmas.List.Elements.{filter-append}
-use Rattle.std.proofs.lemmas.List.Sums.{sum_by-cons}
-use Rattle.upd_core.proofs.ApartLemmas.{all_back, all_front}
-use Rattle.upd_core.specs.Serials.{Serial}
-use Rattle.upd_core.specs.Counted.{CountedCardView, counted_card, others_of, yanks_of}
-use Rattle.upd_core.specs.declared.ident.Ident.{Ident}
-use Rattle.upd_core.specs.declared.library.Rest.{Rest}
-use Rattle.upd_core.specs.Library.{CardView, DeckView, LibraryView}
-use Rattle.upd_core.specs.Parts.{cards_of_decks, entries_of_decks, part}
-use Rattle.upd_core.specs.Status.{status_of}
-use Rattle.upd_core.specs.TargetCounts.{live_count}
-use Rattle.upd_text.specs.declared.card_ref.CardRef.{CardRef}
-use Rattle.upd_yank.specs.Affected.{is_touched}
-use Rattle.upd_yank.specs.Cascade.{is_due}
+use Rattle.upd_yank.proofs.Common.{◌≡◌, ◌+◌, Bool, true, false, not, cond, List, [], ◌∷◌, ◌++◌, map, length, None, inl, inr, refl, ap, sym, ◌∙◌, subst, arith}
+use Rattle.upd_yank.proofs.Common.{filter, flat_map, AllByRecursion, filter-append, sum_by-cons, all_back, all_front, Serial, CountedCardView, counted_card}
+use Rattle.upd_yank.proofs.Common.{others_of, yanks_of, Ident, Rest, CardView, DeckView, LibraryView, part, status_of, live_count, CardRef, is_touched, is_due}
+use Rattle.upd_core.specs.Parts.{cards_of_decks, entries_of_decks}
 use Rattle.upd_yank.specs.Enough.{IsEnough}
 
 -- the cards of decks with their references

@@ -1,9 +1,7 @@
 -- What a test of some finds, and the deck that has a card found by serial.
-use Rattle.std.proofs.Common.{◌≡◌, ℕ, zero, suc, Bool, true, false, List, [], ◌∷◌, slice_get, Option, Some, None, refl}
-use Rattle.std.specs.List.{list_any, find, Contains}
-use Rattle.std.proofs.lemmas.Bool.Decides.{Decides-eqb}
-use Rattle.upd_core.proofs.ApartLemmas.{at_contained, find_at}
-use Rattle.upd_core.specs.Library.{CardView, DeckView, LibraryView, all_decks, cards_of, is_deck}
+use Rattle.upd_yank.proofs.Common.{◌≡◌, ℕ, zero, suc, Bool, true, false, List, [], ◌∷◌, slice_get, Option, Some, None, refl, list_any, find, Contains}
+use Rattle.upd_yank.proofs.Common.{Decides-eqb, at_contained, CardView, DeckView, LibraryView, all_decks, cards_of, is_deck}
+use Rattle.upd_core.proofs.ApartLemmas.{find_at}
 
 pub any_at : {A : Type 0} (test : A → Bool) (xs : List A) → list_any test xs ≡ true → (k : ℕ) × (x : A) × (slice_get xs k ≡ Some x) × (test x ≡ true)
 any_at test [] e = absurd (cc)

@@ -1,21 +1,10 @@
 -- Counts in place of the targets of live cards, and cards that no flipped target reaches.
-use Rattle.std.proofs.Common.{◌≡◌, ℕ, ◌+◌, ◌<◌, Bool, true, false, not, ◌&&◌, ◌||◌, if◌then◌else◌, List, [], ◌∷◌, refl, ap, sym, ◌∙◌, arith}
-use Rattle.std.specs.Prelude.{◌==◌}
-use Rattle.std.specs.List.{list_any, filter, AllByRecursion}
-use Rattle.std.proofs.lemmas.Bool.{or_parts}
-use Rattle.std.proofs.lemmas.Bool.Decides.{nat_tests}
-use Rattle.std.proofs.lemmas.List.Folds.{list_any-append}
-use Rattle.std.proofs.lemmas.List.Sums.{sum_by-cons}
+use Rattle.upd_yank.proofs.Common.{◌≡◌, ℕ, ◌+◌, ◌<◌, Bool, true, false, not, ◌&&◌, ◌||◌, if◌then◌else◌, List, [], ◌∷◌, refl, ap, sym, ◌∙◌, arith, ◌==◌}
+use Rattle.upd_yank.proofs.Common.{list_any, filter, AllByRecursion, or_parts, nat_tests, list_any-append, sum_by-cons, Entry, Target, Set, SetIn, Deck}
+use Rattle.upd_yank.proofs.Common.{CardView, differs, is_flipped, is_retaken, is_reached, stays_on, is_active, is_good, targets_of, count_on, has_target}
+use Rattle.upd_yank.proofs.Common.{is_same, is_taken_by, is_active_by}
 use Rattle.upd_core.proofs.TargetLaws.{is_taken-split}
-use Rattle.upd_core.specs.declared.card.Entry.{Entry}
-use Rattle.upd_core.specs.declared.target.Target.{Target}
-use Rattle.upd_core.specs.declared.target.Target.TheVariants.{Set, SetIn, Deck}
-use Rattle.upd_core.specs.Library.{CardView}
-use Rattle.upd_core.specs.Reach.{differs, is_flipped, is_retaken, is_reached}
-use Rattle.upd_core.specs.Status.{ends_on, stays_on, is_active, is_good, is_taken, takes_deck, targets_of}
-use Rattle.upd_core.specs.TargetCounts.{count_on, has_target}
-use Rattle.upd_core.specs.Targets.{is_same}
-use Rattle.upd_yank.specs.Cascade.{is_taken_by, is_active_by}
+use Rattle.upd_core.specs.Status.{ends_on, is_taken, takes_deck}
 
 -- ---- truths and numbers
 

@@ -1,29 +1,17 @@
 -- A card that a run didn't touch was in its deck before, with the same history, and had the status that this gives by the counts before.
-use Rattle.std.proofs.Common.{◌≡◌, ℕ, zero, suc, ◌-◌, ◌<◌, Bool, true, false, not, ◌&&◌, List, [], ◌∷◌, map, slice_get, Some, inl, inr, refl, ap, sym, ◌∙◌}
-use Rattle.std.proofs.Common.{arith}
-use Rattle.std.specs.Prelude.{◌==◌, ◌⊎◌}
-use Rattle.std.specs.List.{list_any, filter, flat_map, AllByRecursion, Contains}
-use Rattle.std.proofs.lemmas.Bool.{and_parts, or_parts}
-use Rattle.std.proofs.lemmas.Bool.Decides.{nat_tests, Decides-eqb}
-use Rattle.std.proofs.lemmas.List.Folds.{list_any-append}
-use Rattle.std.proofs.lemmas.Option.{same_Some}
-use Rattle.upd_core.proofs.ApartLemmas.{all_of_contained, contained_at}
-use Rattle.upd_core.proofs.FoundLemmas.{card_at, card_held, card_place, held_at, in_flat, status_at}
-use Rattle.upd_core.specs.declared.card.Entry.{Entry}
-use Rattle.upd_core.specs.declared.ident.Ident.{Ident}
-use Rattle.upd_core.specs.Counted.{counted_card}
-use Rattle.upd_core.specs.Library.{CardView, DeckView, LibraryView, all_decks, cards_of, is_card, name_of, ref_of}
-use Rattle.upd_core.specs.Sound.{Continues, IsSound, is_held}
-use Rattle.upd_core.specs.Status.{is_active, live_cards, live_targets, status_of}
-use Rattle.upd_core.specs.TargetCounts.{live_count}
+use Rattle.upd_yank.proofs.Common.{◌≡◌, ℕ, zero, suc, ◌-◌, ◌<◌, Bool, true, false, not, ◌&&◌, List, [], ◌∷◌, map, slice_get, Some, inl, inr, refl, ap, sym}
+use Rattle.upd_yank.proofs.Common.{◌∙◌, arith, ◌==◌, ◌⊎◌, list_any, filter, flat_map, AllByRecursion, Contains, and_parts, or_parts, nat_tests, Decides-eqb}
+use Rattle.upd_yank.proofs.Common.{list_any-append, same_Some, all_of_contained, contained_at, status_at, Entry, Ident, counted_card, CardView, DeckView}
+use Rattle.upd_yank.proofs.Common.{LibraryView, all_decks, cards_of, ref_of, Continues, IsSound, is_active, live_cards, live_targets, status_of, live_count}
+use Rattle.upd_yank.proofs.Common.{touched, same_ref, same_ref_own, is_touched, status_before, is_active_by}
+use Rattle.upd_core.proofs.FoundLemmas.{card_at, card_held, card_place, held_at, in_flat}
+use Rattle.upd_core.specs.Library.{is_card, name_of}
+use Rattle.upd_core.specs.Sound.{is_held}
 use Rattle.upd_core.specs.Entries.{same_entry}
-use Rattle.upd_apply.specs.Applying.{same_history, stood_in, touched}
-use Rattle.upd_records.specs.Rows.{same_ref}
+use Rattle.upd_apply.specs.Applying.{same_history, stood_in}
 use Rattle.upd_yank.proofs.FindLemmas.{any_at, cards_found}
 use Rattle.upd_yank.proofs.FlipLemmas.{status_is}
-use Rattle.upd_records.proofs.EqualLemmas.{same_entry_is, same_ref_own}
-use Rattle.upd_yank.specs.Affected.{is_touched, status_before}
-use Rattle.upd_yank.specs.Cascade.{is_active_by}
+use Rattle.upd_records.proofs.EqualLemmas.{same_entry_is}
 
 -- ---- what a test of none finds
 

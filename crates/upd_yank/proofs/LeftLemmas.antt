@@ -1,16 +1,7 @@
 -- The results of a status update, put together from its steps.
-use Rattle.std.proofs.Common.{◌≡◌, ℕ, Bool, if◌then◌else◌, List, [], ◌++◌, Option, None, ap, ◌∙◌}
-use Rattle.std.specs.List.{list_any}
-use Rattle.std.specs.Map.{update_all}
-use Rattle.std.specs.Option.{option_or}
-use Rattle.upd_core.specs.Counted.{CountedCardView, others_of, yanks_of}
-use Rattle.upd_core.specs.declared.target.Target.{Target}
-use Rattle.upd_core.specs.Library.{LibraryView}
-use Rattle.upd_core.specs.TargetCounts.{count_on}
-use Rattle.upd_records.specs.Rows.{same_ref}
-use Rattle.upd_text.specs.declared.card_ref.CardRef.{CardRef}
-use Rattle.upd_yank.specs.Cascade.{found_of_all, found_others, found_yanks, live_now, stay}
-use Rattle.upd_yank.specs.Right.{kept_status}
+use Rattle.upd_yank.proofs.Common.{◌≡◌, ℕ, Bool, if◌then◌else◌, List, [], ◌++◌, Option, None, ap, ◌∙◌, list_any, update_all, option_or, CountedCardView}
+use Rattle.upd_yank.proofs.Common.{others_of, yanks_of, Target, LibraryView, count_on, same_ref, CardRef, found_of_all, found_others, found_yanks, live_now}
+use Rattle.upd_yank.proofs.Common.{stay, kept_status}
 
 pub left_found : (touched was : CountedCardView → Bool) (before : Target → ℕ) (l : LibraryView) (ys os : List CountedCardView) (counts : Target → ℕ)
     (found now : List (CardRef × Bool)) →

@@ -13,6 +13,7 @@ pub mod RowLemmas
 pub mod ReachLemmas
 pub mod UnflippedLemmas
 pub mod ChangedRowLemmas
+pub mod Common
 pub mod StatusChangeLemmas
 pub mod WholeLemmas
 pub mod OnlyLemmas

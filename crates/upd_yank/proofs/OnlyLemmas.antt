@@ -1,16 +1,11 @@
 -- The row changes of a status update are only of statuses and counts.
-use Rattle.std.proofs.Common.{◌≡◌, ℕ, ◌==◌, Bool, true, false, not, ◌&&◌, if◌then◌else◌, List, [], ◌∷◌, ◌++◌, Option, Some, None, refl}
-use Rattle.std.specs.List.{AllByRecursion}
-use Rattle.upd_text.specs.declared.card_ref.CardRef.{CardRef}
-use Rattle.upd_core.specs.declared.target.Target.{Target}
-use Rattle.upd_core.specs.TargetCounts.{count_in}
-use Rattle.upd_records.specs.Changes.{ChangeView, IdentNew, IdentPurged, CardNew, CardGone, CardsMoved, EntryNew, EntriesGone, TargetNew, TargetsGone}
-use Rattle.upd_records.specs.Changes.{StatusNow, CountNow}
-use Rattle.upd_diff.specs.States.{row_changes_state}
+use Rattle.upd_yank.proofs.Common.{◌≡◌, ℕ, Bool, true, false, not, ◌&&◌, if◌then◌else◌, List, [], ◌∷◌, ◌++◌, Option, Some, None, refl, AllByRecursion}
+use Rattle.upd_yank.proofs.Common.{CardRef, Target, count_in, ChangeView, IdentNew, IdentPurged, CardNew, CardGone, CardsMoved, EntryNew, EntriesGone}
+use Rattle.upd_yank.proofs.Common.{TargetNew, TargetsGone, StatusNow, CountNow, row_changes_state, is_other, kept_status, repeated_statuses}
+use Rattle.upd_yank.proofs.Common.{all_repeated_statuses, count_changes, all_count_changes, update_changes, status_of_card, status_change, status_changes}
+use Rattle.upd_yank.proofs.Common.{zero_changes}
+use Rattle.std.proofs.Common.{◌==◌}
 use Rattle.upd_diff.proofs.AllLemmas.{all_joined, each_flat}
-use Rattle.upd_yank.specs.Affected.{is_other}
-use Rattle.upd_yank.specs.Right.{kept_status}
-use Rattle.upd_yank.specs.StatusChanges.{repeated_statuses, all_repeated_statuses, count_changes, all_count_changes, update_changes, status_of_card, status_change, status_changes, zero_changes}
 
 abbrev StatusRowChanges : ChangeView → Type 0
 StatusRowChanges c = row_changes_state c ≡ true

@@ -1,14 +1,7 @@
 -- A card is reached exactly when a flipped target covers it.
-use Rattle.std.proofs.Common.{◌≡◌, ℕ, Bool, true, false, ◌||◌, List, [], ◌∷◌, inl, inr, refl, sym, subst}
-use Rattle.std.specs.Prelude.{◌==◌, ◌⊎◌}
-use Rattle.std.specs.List.{list_any}
-use Rattle.std.proofs.lemmas.Bool.{and_parts, or_cases, or_left, or_right}
-use Rattle.std.proofs.lemmas.Bool.Decides.{Decides-eqb}
-use Rattle.upd_core.specs.declared.card.Entry.{Entry}
-use Rattle.upd_core.specs.declared.target.Target.{Target}
-use Rattle.upd_core.specs.declared.target.Target.TheVariants.{Set, SetIn, Deck}
-use Rattle.upd_core.specs.Library.{CardView}
-use Rattle.upd_core.specs.Reach.{covers, is_flipped, is_reached, is_retaken}
+use Rattle.upd_yank.proofs.Common.{◌≡◌, ℕ, Bool, true, false, ◌||◌, List, [], ◌∷◌, inl, inr, refl, sym, subst, ◌==◌, ◌⊎◌, list_any, and_parts, or_cases}
+use Rattle.upd_yank.proofs.Common.{or_left, or_right, Decides-eqb, Entry, Target, Set, SetIn, Deck, CardView, is_flipped, is_reached, is_retaken}
+use Rattle.upd_core.specs.Reach.{covers}
 
 -- an entry of an ident is retaken where the ident is, by either of two targets
 retaken : (before now : Target → ℕ) (d z : ℕ) (es : List Entry) → (is_flipped before now (Set z) || is_flipped before now (SetIn z d)) ≡ true →

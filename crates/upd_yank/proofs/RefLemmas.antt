@@ -1,18 +1,14 @@
 -- Sets and maps by card reference.
-use Rattle.std.proofs.Common.{◌≡◌, Bool, true, false, ◌||◌, List, cond, if◌then◌else◌, None, Some, refl, ap, sym, ◌∙◌}
+use Rattle.upd_yank.proofs.Common.{◌≡◌, Bool, true, false, ◌||◌, List, cond, if◌then◌else◌, None, Some, refl, ap, sym, ◌∙◌, list_any, update_all, CardRef}
+use Rattle.upd_yank.proofs.Common.{same_ref, same_ref_is, same_ref_own, kept_status}
 use Rattle.std.specs.BTreeMap as tree
 use Rattle.std.specs.BTreeMap.{BTreeMap, is_at}
 use Rattle.std.specs.BTreeSet as sorted
 use Rattle.std.specs.BTreeSet.{BTreeSet}
-use Rattle.std.specs.List.{list_any}
-use Rattle.std.specs.Map.{lookup, update_all}
+use Rattle.std.specs.Map.{lookup}
 use Rattle.std.specs.Ordering.{eq_by_cmp, is_eq}
 use Rattle.upd_text.proofs.OrderLemmas.{is_same-is_eq}
 use Rattle.upd_text.specs.contracts.card_ref.CardRefOrd.TheImpl as order
-use Rattle.upd_text.specs.declared.card_ref.CardRef.{CardRef}
-use Rattle.upd_records.specs.Rows.{same_ref}
-use Rattle.upd_records.proofs.EqualLemmas.{same_ref_is, same_ref_own}
-use Rattle.upd_yank.specs.Right.{kept_status}
 
 pub same_ref_sym : (a b : CardRef) → same_ref a b ≡ same_ref b a
 same_ref_sym a b = go (same_ref a b) refl (same_ref b a) refl

@@ -1,27 +1,17 @@
 -- Active cards made from a part are those of the library after a run.
-use Rattle.std.proofs.Common.{◌≡◌, ℕ, zero, suc, ◌+◌, ◌<◌, ◌≤◌, Bool, true, false, not, ◌&&◌, ◌||◌, cond, if◌then◌else◌, List, [], ◌∷◌, ◌++◌, map, slice_get}
-use Rattle.std.proofs.Common.{Some, None, inl, inr, unwrap_or, refl, ap, sym, ◌∙◌, subst, arith}
-use Rattle.std.specs.Prelude.{◌==◌, ◌⊎◌}
-use Rattle.std.specs.List.{list_any, filter, find, flat_map, AllByRecursion, Contains}
+use Rattle.upd_yank.proofs.Common.{◌≡◌, ℕ, zero, suc, ◌+◌, ◌<◌, ◌≤◌, Bool, true, false, not, ◌&&◌, ◌||◌, cond, if◌then◌else◌, List, [], ◌∷◌, ◌++◌, map}
+use Rattle.upd_yank.proofs.Common.{slice_get, Some, None, inl, inr, unwrap_or, refl, ap, sym, ◌∙◌, subst, arith, ◌==◌, ◌⊎◌, list_any, filter, find, flat_map}
+use Rattle.upd_yank.proofs.Common.{AllByRecursion, Contains, ne_eqb, or_cases, or_right, Decides-eqb, same_Some, all_at, all_by_index, at_contained}
+use Rattle.upd_yank.proofs.Common.{contained_at, status_at, without_past, Serial, counted_card, Ident, CardView, DeckView, LibraryView, all_decks, is_deck}
+use Rattle.upd_yank.proofs.Common.{ref_of, part, AreApart, IsSound, is_active, live_targets, CardRef, is_active_deck, CacheView, IsRight, was_active}
 use Rattle.std.specs.Option.{option_map}
-use Rattle.std.proofs.lemmas.Bool.{ne_eqb, or_cases, or_right}
-use Rattle.std.proofs.lemmas.Bool.Decides.{Decides-eqb}
-use Rattle.std.proofs.lemmas.Option.{same_Some}
-use Rattle.upd_core.proofs.ApartLemmas.{all_at, all_by_index, all_mapped, at_contained, contained_at, find_only, rising_apart}
-use Rattle.upd_core.proofs.FoundLemmas.{status_at}
-use Rattle.upd_core.specs.Actives.{ActiveDeckView, active_deck, actives_of, without_past}
-use Rattle.upd_core.specs.Serials.{Serial}
-use Rattle.upd_core.specs.Counted.{counted_card}
-use Rattle.upd_core.specs.declared.ident.Ident.{Ident}
-use Rattle.upd_core.specs.Library.{CardView, DeckView, LibraryView, all_decks, is_deck, is_deck_kind, ref_of}
-use Rattle.upd_core.specs.Parts.{part}
-use Rattle.upd_core.specs.Sound.{AreAgedFrom, AreApart, AreRising, IsSound, IsWhole, is_held_deck}
-use Rattle.upd_core.specs.Status.{is_active, live_targets}
-use Rattle.upd_text.specs.declared.card_ref.CardRef.{CardRef}
+use Rattle.upd_core.proofs.ApartLemmas.{all_mapped, find_only, rising_apart}
+use Rattle.upd_core.specs.Actives.{ActiveDeckView, active_deck, actives_of}
+use Rattle.upd_core.specs.Library.{is_deck_kind}
+use Rattle.upd_core.specs.Sound.{AreAgedFrom, AreRising, IsWhole, is_held_deck}
 use Rattle.upd_yank.proofs.FindLemmas.{any_at}
 use Rattle.upd_yank.proofs.WorkLemmas.{all_map}
-use Rattle.upd_yank.specs.Renewed.{IsAsBefore, anew_or_before, deck_anew, deck_of_age, is_active_deck, renewed}
-use Rattle.upd_yank.specs.Right.{CacheView, IsRight, was_active}
+use Rattle.upd_yank.specs.Renewed.{IsAsBefore, anew_or_before, deck_anew, deck_of_age, renewed}
 
 -- ---- the decks of a part
 

@@ -1,24 +1,12 @@
 -- A status update leaves the statuses and counts of the library after a run, and examines no more cards than it must.
-use Rattle.std.proofs.Common.{◌≡◌, ℕ, zero, suc, ◌+◌, ◌<◌, ◌≤◌, ◌^◌, Bool, true, false, ◌||◌, List, [], ◌∷◌, ◌++◌, map, length, Option, Some, None}
-use Rattle.std.proofs.Common.{is_some, unwrap_or, inl, inr, refl, ap, sym, ◌∙◌, subst, arith, length-append}
-use Rattle.std.specs.List.{list_any, filter, AllByRecursion}
-use Rattle.std.specs.Map.{update_all}
-use Rattle.std.proofs.lemmas.Bool.{or_parts}
-use Rattle.upd_core.proofs.ApartLemmas.{all_by_index}
-use Rattle.upd_records.proofs.EqualLemmas.{same_ref_own}
-use Rattle.upd_core.specs.Counted.{CountedCardView, counted_card, counted_cards, others_of, yanks_of}
-use Rattle.upd_core.specs.declared.target.Target.{Target}
-use Rattle.upd_core.specs.Library.{LibraryView}
-use Rattle.upd_core.specs.Reach.{is_reached}
-use Rattle.upd_core.specs.Sound.{Continues, IsSound}
-use Rattle.upd_core.specs.Status.{is_active, live_cards, live_targets, status_of}
-use Rattle.upd_core.specs.TargetCounts.{count_in, count_on, live_count}
-use Rattle.upd_apply.specs.Applying.{touched}
-use Rattle.upd_records.specs.Changes.{ChangeView}
-use Rattle.upd_records.specs.Rows.{same_ref}
-use Rattle.upd_diff.specs.States.{TakeGone}
+use Rattle.upd_yank.proofs.Common.{◌≡◌, ℕ, zero, suc, ◌+◌, ◌<◌, ◌≤◌, ◌^◌, Bool, true, false, ◌||◌, List, [], ◌∷◌, ◌++◌, map, length, Option, Some, None}
+use Rattle.upd_yank.proofs.Common.{is_some, unwrap_or, inl, inr, refl, ap, sym, ◌∙◌, subst, arith, length-append, list_any, filter, AllByRecursion}
+use Rattle.upd_yank.proofs.Common.{update_all, or_parts, all_by_index, same_ref_own, CountedCardView, counted_card, counted_cards, others_of, yanks_of}
+use Rattle.upd_yank.proofs.Common.{Target, LibraryView, is_reached, Continues, IsSound, is_active, live_cards, live_targets, status_of, count_in, count_on}
+use Rattle.upd_yank.proofs.Common.{live_count, touched, ChangeView, same_ref, TakeGone, CardRef, is_other, is_touched, status_before, ArePut, IsRightBefore}
+use Rattle.upd_yank.proofs.Common.{found_of, found_of_all, found_others, found_yanks, is_active_by, is_due, live_now, stay, AreCountable, CacheView, IsRight}
+use Rattle.upd_yank.proofs.Common.{IsRunBetween, kept_status, was_active}
 use Rattle.upd_diff.proofs.StateLemmas.{any_of}
-use Rattle.upd_text.specs.declared.card_ref.CardRef.{CardRef}
 use Rattle.upd_yank.proofs.EnoughLemmas.{Sees}
 use Rattle.upd_yank.proofs.FlipLemmas.{same_active, status_is}
 use Rattle.upd_yank.proofs.KeptLemmas.{untouched_before, untouched_status}
@@ -26,10 +14,7 @@ use Rattle.upd_yank.proofs.StatusChangeLemmas.{IsSettled}
 use Rattle.upd_yank.proofs.WholeLemmas.{whole_right}
 use Rattle.upd_yank.proofs.StateLemmas.{HadStatus, all_counted, put_all, statuses_are, unfound_stayed}
 use Rattle.upd_yank.proofs.WorkLemmas.{HasStatus, IsListed, is_found, all_both, all_map, found_back}
-use Rattle.upd_yank.specs.Affected.{affected, altered, is_other, is_touched, status_before}
-use Rattle.upd_yank.specs.Cascade.{ArePut, IsRightBefore, found_of, found_of_all, found_others, found_yanks, is_active_by, is_due, live_now}
-use Rattle.upd_yank.specs.Cascade.{stay}
-use Rattle.upd_yank.specs.Right.{AreCountable, CacheView, IsRight, IsRunBetween, kept_status, was_active}
+use Rattle.upd_yank.specs.Affected.{affected, altered}
 use Rattle.upd_yank.proofs.SoundCascadeLemmas.{IsKnown, live_is, found_is, found_count, found_right, statuses_right}
 
 -- ---- after a run
@@ -199,7 +184,8 @@ pub known_anew : (run was : CountedCardView → Bool) (before : Target → ℕ) 
     AllByRecursion (λ k. run k ≡ true) (counted_cards l) → IsKnown run was before known l
 known_anew run was before known l sound all = record {
   sound = sound;
-  kept = all_map (λ k. run k ≡ true) (IsRightBefore run was before) (counted_cards l) (λ k h. record { status = λ none. absurd (let q = sym h ∙ none in cc) }) all;
+  kept = all_map (λ k. run k ≡ true) (IsRightBefore run was before) (counted_cards l)
+      (λ k h. record { status = λ none. absurd (let q = sym h ∙ none in cc) }) all;
   had = all_map (λ k. run k ≡ true) (HadStatus l (is_due run before (live_count l)) known) (counted_cards l)
       (λ k h. λ none. absurd (let q = sym h ∙ (or_parts (run k) (is_reached before (live_count l) k.deck k.view) none).0 in cc)) all;
 }

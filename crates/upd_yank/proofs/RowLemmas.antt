@@ -1,17 +1,9 @@
 -- Statuses and counts that are set in order: what each reference and target gets.
-use Rattle.std.proofs.Common.{◌≡◌, ℕ, Bool, true, false, cond, if◌then◌else◌, List, [], ◌∷◌, ◌++◌, Option, Some, None, refl, ap, sym, ◌∙◌}
-use Rattle.std.specs.Prelude.{◌==◌}
-use Rattle.std.specs.List.{filter}
-use Rattle.std.specs.Map.{update, update_all}
-use Rattle.std.proofs.lemmas.Bool.Decides.{Decides-eqb}
+use Rattle.upd_yank.proofs.Common.{◌≡◌, ℕ, Bool, true, false, cond, if◌then◌else◌, List, [], ◌∷◌, ◌++◌, Option, Some, None, refl, ap, sym, ◌∙◌, ◌==◌, filter}
+use Rattle.upd_yank.proofs.Common.{update, update_all, Decides-eqb, Target, is_same, same_ref, CardRef, same_ref_own, put_counts}
 use Rattle.upd_core.proofs.CountedLemmas.{same_target_sym, target_same}
-use Rattle.upd_core.specs.declared.target.Target.{Target}
-use Rattle.upd_core.specs.Targets.{is_same}
-use Rattle.upd_records.specs.Rows.{same_ref}
-use Rattle.upd_text.specs.declared.card_ref.CardRef.{CardRef}
-use Rattle.upd_records.proofs.EqualLemmas.{same_ref_own}
 use Rattle.upd_yank.proofs.RefLemmas.{same_ref_sym}
-use Rattle.upd_yank.specs.Right.{count_pairs, put_counts, status_pairs}
+use Rattle.upd_yank.specs.Right.{count_pairs, status_pairs}
 
 -- ---- statuses
 

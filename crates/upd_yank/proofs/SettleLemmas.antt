@@ -1,16 +1,8 @@
 -- The cards that the cascade finds live are the live ones, and the statuses that it keeps are those that it would find.
-use Rattle.std.proofs.Common.{◌≡◌, ℕ, ◌+◌, Bool, true, false, ◌&&◌, ◌||◌, if◌then◌else◌, List, [], ◌∷◌, refl, ap, sym, ◌∙◌, arith}
-use Rattle.std.specs.Prelude.{◌==◌}
-use Rattle.std.specs.List.{AllByRecursion}
-use Rattle.upd_core.specs.Counted.{CountedCardView}
-use Rattle.upd_core.specs.declared.target.Target.{Target}
-use Rattle.upd_core.specs.declared.target.Target.TheVariants.{Deck}
-use Rattle.upd_core.specs.Library.{CardView}
-use Rattle.upd_core.specs.Reach.{is_reached}
-use Rattle.upd_core.specs.Status.{stays_on, is_good, live_cards, targets_of}
-use Rattle.upd_core.specs.TargetCounts.{count_on, has_target}
+use Rattle.upd_yank.proofs.Common.{◌≡◌, ℕ, ◌+◌, Bool, true, false, ◌&&◌, ◌||◌, if◌then◌else◌, List, [], ◌∷◌, refl, ap, sym, ◌∙◌, arith, ◌==◌, AllByRecursion}
+use Rattle.upd_yank.proofs.Common.{CountedCardView, Target, Deck, CardView, is_reached, stays_on, is_good, live_cards, targets_of, count_on, has_target}
+use Rattle.upd_yank.proofs.Common.{is_taken_by, AreYanks, IsRightBefore, TakesNoYanks, is_taken_by, is_active_by, status_now, live_now, views}
 use Rattle.upd_yank.proofs.FlipLemmas.{count_cons, good_is, same_active}
-use Rattle.upd_yank.specs.Cascade.{is_taken_by, AreYanks, IsRightBefore, TakesNoYanks, is_taken_by, is_active_by, status_now, live_now, views}
 
 -- the status now is the one that would be found
 pub status_anew : (touched was : CountedCardView → Bool) (before now : Target → ℕ) (k : CountedCardView) → IsRightBefore touched was before k →

@@ -1,27 +1,13 @@
 -- What the cascade finds on a sound library.
-use Rattle.std.proofs.Common.{◌≡◌, ℕ, ◌+◌, Bool, List, [], ◌∷◌, ◌++◌, map, length, Option, Some, None}
-use Rattle.std.proofs.Common.{refl, ap, sym, ◌∙◌, subst, arith, length-append}
-use Rattle.std.specs.List.{filter, AllByRecursion}
-use Rattle.std.specs.Map.{update_all}
-use Rattle.std.proofs.lemmas.List.{length-map}
-use Rattle.upd_core.proofs.ApartLemmas.{all_back, all_front}
-use Rattle.std.proofs.lemmas.List.Elements.{filter-append}
-use Rattle.upd_core.specs.Counted.{CountedCardView, counted_card, counted_cards, others_of, yanks_of}
-use Rattle.upd_core.specs.declared.target.Target.{Target}
-use Rattle.upd_core.specs.Library.{CardView, LibraryView}
-use Rattle.upd_core.specs.Sound.{IsSound}
-use Rattle.upd_core.specs.Status.{IsAged, live_cards, status_of}
-use Rattle.upd_core.specs.TargetCounts.{count_on, live_count}
-use Rattle.upd_apply.specs.Applying.{touched}
-use Rattle.upd_records.specs.Rows.{same_ref}
-use Rattle.upd_text.specs.declared.card_ref.CardRef.{CardRef}
+use Rattle.upd_yank.proofs.Common.{◌≡◌, ℕ, ◌+◌, Bool, List, [], ◌∷◌, ◌++◌, map, length, Option, Some, None, refl, ap, sym, ◌∙◌, subst, arith, length-append}
+use Rattle.upd_yank.proofs.Common.{filter, AllByRecursion, update_all, length-map, all_back, all_front, filter-append, CountedCardView, counted_card}
+use Rattle.upd_yank.proofs.Common.{counted_cards, others_of, yanks_of, Target, CardView, LibraryView, IsSound, IsAged, live_cards, status_of, count_on}
+use Rattle.upd_yank.proofs.Common.{live_count, touched, same_ref, CardRef, AreYanks, IsRightBefore, TakesNoYanks, found_of, found_others, found_yanks, is_due}
+use Rattle.upd_yank.proofs.Common.{live_now, stay, views}
 use Rattle.upd_yank.proofs.SettleLemmas.{settled_is}
 use Rattle.upd_yank.proofs.StateLemmas.{HadStatus, put_all, stay_right, statuses_are}
 use Rattle.upd_yank.proofs.WorkLemmas.{Agrees, HasStatus, IsListed, all_agree, all_both, all_listed_back, all_listed_others, all_map, found_back, length_back}
 use Rattle.upd_yank.proofs.WorkLemmas.{listed_back, listed_front, right_back, right_others, takes_no_yanks, yanks_found}
-use Rattle.upd_yank.specs.Cascade.{AreYanks, IsRightBefore, TakesNoYanks, found_of, found_others, found_yanks, is_due, live_now}
-use Rattle.upd_yank.specs.Cascade.{stay}
-use Rattle.upd_yank.specs.Cascade.{views}
 
 -- ---- the cards of `YANK$$$`
 

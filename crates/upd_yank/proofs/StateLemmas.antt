@@ -1,28 +1,15 @@
 -- The statuses after what is found is added to those that stay.
-use Rattle.std.proofs.Common.{◌≡◌, ℕ, zero, suc, Bool, true, false, ◌||◌, cond, if◌then◌else◌, List, [], ◌∷◌, ◌++◌, map, slice_get, Option, Some, None, is_some}
-use Rattle.std.proofs.Common.{refl, ap, sym, ◌∙◌}
-use Rattle.std.specs.List.{list_any, flat_map, AllByRecursion, Contains}
-use Rattle.std.specs.Map.{update, update_all}
-use Rattle.std.specs.Option.{option_or}
-use Rattle.std.proofs.lemmas.Bool.{or_parts}
-use Rattle.std.proofs.lemmas.List.Folds.{list_any-append}
-use Rattle.upd_core.proofs.ApartLemmas.{all_at, all_of_contained, at_contained, contained_at}
-use Rattle.upd_core.proofs.FoundLemmas.{card_of_place, status_at}
-use Rattle.upd_core.specs.Counted.{CountedCardView, counted_card, counted_cards, others_of, yanks_of}
-use Rattle.upd_core.specs.declared.ident.Ident.{Ident}
+use Rattle.upd_yank.proofs.Common.{◌≡◌, ℕ, zero, suc, Bool, true, false, ◌||◌, cond, if◌then◌else◌, List, [], ◌∷◌, ◌++◌, map, slice_get, Option, Some, None}
+use Rattle.upd_yank.proofs.Common.{is_some, refl, ap, sym, ◌∙◌, list_any, flat_map, AllByRecursion, Contains, update, update_all, option_or, or_parts}
+use Rattle.upd_yank.proofs.Common.{list_any-append, all_at, all_of_contained, at_contained, contained_at, status_at, CountedCardView, counted_card}
+use Rattle.upd_yank.proofs.Common.{counted_cards, others_of, yanks_of, Ident, CardView, DeckView, LibraryView, all_decks, ref_of, IsSound, live_cards}
+use Rattle.upd_yank.proofs.Common.{status_of, live_count, Target, same_ref, CardRef, same_ref_is, same_ref_own, is_active_by, stay}
+use Rattle.upd_core.proofs.FoundLemmas.{card_of_place}
 use Rattle.upd_core.specs.declared.library.Place.{Place}
-use Rattle.upd_core.specs.Library.{CardView, DeckView, LibraryView, all_decks, place_of, ref_of}
-use Rattle.upd_core.specs.Sound.{IsSound}
-use Rattle.upd_core.specs.Status.{live_cards, status_of}
-use Rattle.upd_core.specs.TargetCounts.{live_count}
-use Rattle.upd_core.specs.declared.target.Target.{Target}
-use Rattle.upd_records.specs.Rows.{same_ref}
-use Rattle.upd_text.specs.declared.card_ref.CardRef.{CardRef}
+use Rattle.upd_core.specs.Library.{place_of}
 use Rattle.upd_yank.proofs.FlipLemmas.{status_is}
 use Rattle.upd_yank.proofs.FindLemmas.{any_at, cards_found}
-use Rattle.upd_records.proofs.EqualLemmas.{same_ref_is, same_ref_own}
 use Rattle.upd_yank.proofs.WorkLemmas.{HasStatus, IsListed, all_both, is_found}
-use Rattle.upd_yank.specs.Cascade.{is_active_by, stay}
 
 -- ---- the cards of a library with their decks
 

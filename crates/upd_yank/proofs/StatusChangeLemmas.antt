@@ -1,29 +1,14 @@
 -- The row changes of a status update take rows that show the statuses before a run to rows that show those after it.
-use Rattle.std.proofs.Common.{◌≡◌, ℕ, Bool, true, false, not, ◌&&◌, ◌||◌, cond, List, [], ◌∷◌, ◌++◌, Option, Some, None, is_some, refl, ap}
-use Rattle.std.proofs.Common.{sym, ◌∙◌}
-use Rattle.std.specs.Prelude.{◌==◌}
-use Rattle.std.specs.List.{filter, flat_map, list_any, AllByRecursion}
-use Rattle.std.proofs.lemmas.Bool.{or_parts}
-use Rattle.std.proofs.lemmas.Bool.Decides.{Decides-eqb}
-use Rattle.std.proofs.lemmas.List.Folds.{list_any-append}
-use Rattle.upd_text.specs.declared.card_ref.CardRef.{CardRef}
-use Rattle.upd_core.proofs.CountedLemmas.{same_target}
-use Rattle.upd_core.specs.declared.target.Target.{Target}
-use Rattle.upd_core.specs.Library.{LibraryView}
-use Rattle.upd_core.specs.Status.{status_of}
-use Rattle.upd_core.specs.TargetCounts.{count_in, live_count}
-use Rattle.upd_core.specs.Targets.{is_same}
-use Rattle.upd_records.specs.Changes.{ChangeView, IdentNew, IdentPurged, CardNew, CardGone, CardsMoved, EntryNew, EntriesGone, TargetNew, TargetsGone}
-use Rattle.upd_records.specs.Changes.{StatusNow, CountNow, done_all}
-use Rattle.upd_records.specs.Rows.{Rows, ShowsStates, count_rows, same_ref, state_rows}
-use Rattle.upd_diff.specs.States.{TakeGone, takes_card}
+use Rattle.upd_yank.proofs.Common.{◌≡◌, ℕ, Bool, true, false, not, ◌&&◌, ◌||◌, cond, List, [], ◌∷◌, ◌++◌, Option, Some, None, is_some, refl, ap, sym, ◌∙◌}
+use Rattle.upd_yank.proofs.Common.{◌==◌, filter, flat_map, list_any, AllByRecursion, or_parts, Decides-eqb, list_any-append, CardRef, same_target, Target}
+use Rattle.upd_yank.proofs.Common.{LibraryView, status_of, count_in, live_count, is_same, ChangeView, IdentNew, IdentPurged, CardNew, CardGone, CardsMoved}
+use Rattle.upd_yank.proofs.Common.{EntryNew, EntriesGone, TargetNew, TargetsGone, StatusNow, CountNow, done_all, Rows, ShowsStates, count_rows, same_ref}
+use Rattle.upd_yank.proofs.Common.{state_rows, TakeGone, same_ref_is, same_ref_own, is_other, kept_status, repeated_statuses, all_repeated_statuses}
+use Rattle.upd_yank.proofs.Common.{count_changes, all_count_changes, update_changes, status_of_card, status_change, status_changes, zero_changes}
+use Rattle.upd_diff.specs.States.{takes_card}
 use Rattle.upd_diff.proofs.StateLemmas.{counts_after, state_after}
-use Rattle.upd_records.proofs.EqualLemmas.{same_ref_is, same_ref_own}
 use Rattle.upd_yank.proofs.UnflippedLemmas.{is_listed, unlisted}
 use Rattle.upd_yank.proofs.WorkLemmas.{all_both, is_found}
-use Rattle.upd_yank.specs.Affected.{is_other}
-use Rattle.upd_yank.specs.Right.{kept_status}
-use Rattle.upd_yank.specs.StatusChanges.{repeated_statuses, all_repeated_statuses, count_changes, all_count_changes, update_changes, status_of_card, status_change, status_changes, zero_changes}
 use Rattle.upd_yank.proofs.ChangedRowLemmas.{IsRightOf, tells_status, tells_count, state_is, count_is}
 
 -- ---- the statuses that were found
@@ -129,7 +114,8 @@ right_counts : (l : LibraryView) (before now : Target → ℕ) (ps : List (Targe
     AllByRecursion (IsRightOf l) (flat_map (count_changes before now) ps)
 right_counts l before now [] right = tt
 right_counts l before now (p ∷ ps) right =
-    all_both (IsRightOf l) (count_changes before now p) (flat_map (count_changes before now) ps) (one (now p.0 == before p.0)) (right_counts l before now ps right)
+    all_both (IsRightOf l) (count_changes before now p) (flat_map (count_changes before now) ps) (one (now p.0 == before p.0))
+    (right_counts l before now ps right)
   where
     one : (b : Bool) → AllByRecursion (IsRightOf l) (cond b [] (CountNow p.0 (now p.0) ∷ []))
     one true = tt
@@ -162,7 +148,8 @@ same_count before now (p ∷ ps) t untold is =
     go true e true f none later =
         let one : t ≡ p.0 = same_target t p.0 e in
         ap now one ∙ (Decides-eqb (now p.0) (before p.0)).0 f ∙ ap before (sym one)
-    go true e false f none later = let row_changes : (is_same t p.0 || false) ≡ false = rw f at none in absurd (let q = sym (ap (λ b. b || false) e) ∙ row_changes in cc)
+    go true e false f none later = let row_changes : (is_same t p.0 || false)
+        ≡ false = rw f at none in absurd (let q = sym (ap (λ b. b || false) e) ∙ row_changes in cc)
 
 -- where the count of a target that was listed isn't set and is 0 now, it was 0
 none_before : (before now : Target → ℕ) (ps : List (Target × ℕ)) (t : Target) → list_any (tells_count t) (flat_map (zero_changes before now) ps) ≡ false →
@@ -192,7 +179,8 @@ untold_count had has t untold = go (is_listed t has) refl (is_listed t had) refl
     before : Target → ℕ
     before = count_in had
 
-    parts : (list_any (tells_count t) (flat_map (count_changes before now) has) ≡ false) × (list_any (tells_count t) (flat_map (zero_changes before now) had) ≡ false)
+    parts : (list_any (tells_count t) (flat_map (count_changes before now) has) ≡ false)
+        × (list_any (tells_count t) (flat_map (zero_changes before now) had) ≡ false)
     parts = or_parts (list_any (tells_count t) (flat_map (count_changes before now) has)) (list_any (tells_count t) (flat_map (zero_changes before now) had))
         (sym (list_any-append (tells_count t) (flat_map (count_changes before now) has) (flat_map (zero_changes before now) had)) ∙ untold)
 

@@ -1,20 +1,12 @@
 -- One more card of `YANK$$$`: the counts and what is found, from the youngest card down to it.
-use Rattle.std.proofs.Common.{◌≡◌, ℕ, ◌+◌, ◌<◌, ◌≤◌, ◌^◌, ◌-◌, min, Bool, true, false, ◌||◌, if◌then◌else◌, List, [], ◌∷◌, ◌++◌, length, drop, get_or, count_by}
-use Rattle.std.proofs.Common.{refl, ap, sym, ◌∙◌, append_assoc, append-nil, length-append, arith}
-use Rattle.std.specs.List.{list_any, AllByRecursion}
-use Rattle.std.proofs.lemmas.List.{drop_more, length-drop, length-map}
-use Rattle.std.proofs.lemmas.List.Sums.{sum_by-cons}
-use Rattle.upd_core.proofs.CountedLemmas.{same_target}
-use Rattle.upd_core.specs.Counted.{CountedCardView, CountedView, one_more}
-use Rattle.upd_core.specs.declared.target.Target.{Target}
-use Rattle.upd_core.specs.Library.{CardView}
-use Rattle.upd_core.specs.Sound.{AreApart}
-use Rattle.upd_core.specs.TargetCounts.{count_on, has_target}
-use Rattle.upd_core.specs.Targets.{is_same}
-use Rattle.upd_text.specs.declared.card_ref.CardRef.{CardRef}
+use Rattle.upd_yank.proofs.Common.{◌≡◌, ℕ, ◌+◌, ◌<◌, ◌≤◌, ◌^◌, ◌-◌, Bool, true, false, ◌||◌, if◌then◌else◌, List, [], ◌∷◌, ◌++◌, length, drop, get_or, refl}
+use Rattle.upd_yank.proofs.Common.{ap, sym, ◌∙◌, append-nil, length-append, arith, list_any, AllByRecursion, length-map, sum_by-cons, same_target}
+use Rattle.upd_yank.proofs.Common.{CountedCardView, CountedView, Target, CardView, AreApart, count_on, has_target, is_same, CardRef, found_of, found_others}
+use Rattle.upd_yank.proofs.Common.{found_yanks, is_due, live_now, status_now, views, AreCountable}
+use Rattle.std.proofs.Common.{min, count_by, append_assoc}
+use Rattle.std.proofs.lemmas.List.{drop_more, length-drop}
+use Rattle.upd_core.specs.Counted.{one_more}
 use Rattle.upd_yank.proofs.FlipLemmas.{count_cons}
-use Rattle.upd_yank.specs.Cascade.{found_of, found_others, found_yanks, is_due, live_now, status_now, views}
-use Rattle.upd_yank.specs.Right.{AreCountable}
 
 -- ---- targets that differ count once
 
@@ -163,7 +155,8 @@ others_more touched before now ks i d k found more whole within read is so_far =
 
 -- one read more where one more is found
 pub read_more : (due : Bool) (old new : CountedView) (found now : List (CardRef × Bool)) (p : CardRef × Bool) → new ≡ (if due then one_more old else old) →
-    now ≡ found ++ (if due then p ∷ [] else []) → (old.histories_read + 1 < 2 ^ 64 → new.histories_read + length found ≡ old.histories_read + length now) × (length now ≤ length found + 1)
+    now ≡ found ++ (if due then p ∷ [] else []) → (old.histories_read + 1 < 2 ^ 64 → new.histories_read + length found ≡ old.histories_read + length now)
+    × (length now ≤ length found + 1)
 read_more true old new found now p reads is =
     let n : length now ≡ length found + 1 = ap length is ∙ length-append found (p ∷ []) in
     let r : new.histories_read ≡ min (old.histories_read + 1) (2 ^ 64 - 1) = ap (λ (c : CountedView). c.histories_read) reads in

@@ -1,18 +1,9 @@
 -- Some count flipped exactly where a listed one did; where none did, no card is reached.
-use Rattle.std.proofs.Common.{◌≡◌, ℕ, Bool, true, false, ◌||◌, if◌then◌else◌, List, [], ◌∷◌, ◌++◌, inl, inr, refl, ap, sym, ◌∙◌, append-nil}
-use Rattle.std.specs.Prelude.{◌==◌, ◌⊎◌, ◌↔◌}
-use Rattle.std.specs.List.{list_any}
-use Rattle.std.proofs.lemmas.Bool.{false_from_ne_true, iff_false, or_cases, or_parts}
-use Rattle.upd_text.specs.declared.card_ref.CardRef.{CardRef}
-use Rattle.upd_core.proofs.CountedLemmas.{same_target}
-use Rattle.upd_core.specs.Counted.{CountedCardView}
-use Rattle.upd_core.specs.declared.card.Entry.{Entry}
-use Rattle.upd_core.specs.declared.target.Target.{Target}
-use Rattle.upd_core.specs.declared.target.Target.TheVariants.{Set, SetIn, Deck}
-use Rattle.upd_core.specs.Reach.{differs, is_flipped, is_retaken}
-use Rattle.upd_core.specs.TargetCounts.{count_in}
-use Rattle.upd_core.specs.Targets.{is_same}
-use Rattle.upd_yank.specs.Cascade.{found_of, is_due}
+use Rattle.upd_yank.proofs.Common.{◌≡◌, ℕ, Bool, true, false, ◌||◌, if◌then◌else◌, List, [], ◌∷◌, ◌++◌, inl, inr, refl, ap, sym, ◌∙◌, append-nil, ◌==◌, ◌⊎◌}
+use Rattle.upd_yank.proofs.Common.{list_any, or_cases, or_parts, CardRef, same_target, CountedCardView, Entry, Target, Set, SetIn, Deck, differs, is_flipped}
+use Rattle.upd_yank.proofs.Common.{is_retaken, count_in, is_same, found_of, is_due}
+use Rattle.std.specs.Prelude.{◌↔◌}
+use Rattle.std.proofs.lemmas.Bool.{false_from_ne_true, iff_false}
 
 -- whether a target is listed
 abbrev pub is_listed : Target → List (Target × ℕ) → Bool

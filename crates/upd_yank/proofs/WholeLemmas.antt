@@ -1,23 +1,14 @@
 -- Where as many statuses are stored as a library has cards, and each card has its own, no other card has one.
-use Rattle.std.proofs.Common.{◌≡◌, ℕ, ◌+◌, ◌≤◌, Bool, true, false, cond, List, [], ◌∷◌, ◌++◌, map, length, Option, Some, None, is_some, refl, ap}
-use Rattle.std.proofs.Common.{sym, ◌∙◌, subst}
-use Rattle.std.proofs.Common.{arith}
-use Rattle.std.specs.List.{flat_map, AllByRecursion}
-use Rattle.std.specs.Map.{remove_entry, update_all}
-use Rattle.std.proofs.lemmas.List.{length-map, map-append}
-use Rattle.upd_text.specs.declared.card_ref.CardRef.{CardRef}
+use Rattle.upd_yank.proofs.Common.{◌≡◌, ℕ, ◌+◌, ◌≤◌, Bool, true, false, cond, List, [], ◌∷◌, ◌++◌, map, length, Option, Some, None, is_some, refl, ap, sym}
+use Rattle.upd_yank.proofs.Common.{◌∙◌, subst, arith, flat_map, AllByRecursion, update_all, length-map, CardRef, CountedCardView, counted_card, counted_cards}
+use Rattle.upd_yank.proofs.Common.{yanks_of, others_of, CardView, DeckView, LibraryView, ref_of, AreApart, IsSound, status_of, live_count, same_ref}
+use Rattle.upd_yank.proofs.Common.{same_ref_is, is_active_by, kept_status}
+use Rattle.std.specs.Map.{remove_entry}
+use Rattle.std.proofs.lemmas.List.{map-append}
 use Rattle.upd_core.proofs.FoundLemmas.{refs_apart}
-use Rattle.upd_core.specs.Counted.{CountedCardView, counted_card, counted_cards, yanks_of, others_of}
-use Rattle.upd_core.specs.Library.{CardView, DeckView, LibraryView, ref_of}
-use Rattle.upd_core.specs.Sound.{AreApart, IsSound, all_cards}
-use Rattle.upd_core.specs.Status.{status_of}
-use Rattle.upd_core.specs.TargetCounts.{live_count}
-use Rattle.upd_records.specs.Rows.{same_ref}
-use Rattle.upd_records.proofs.EqualLemmas.{same_ref_is}
+use Rattle.upd_core.specs.Sound.{all_cards}
 use Rattle.upd_yank.proofs.StateLemmas.{HadStatus, put_all, statuses_are, unfound_stayed}
 use Rattle.upd_yank.proofs.WorkLemmas.{HasStatus, IsListed, all_map}
-use Rattle.upd_yank.specs.Cascade.{is_active_by}
-use Rattle.upd_yank.specs.Right.{kept_status}
 
 -- ---- references that differ and are all stored are no more than what is stored
 

@@ -1,25 +1,12 @@
 -- What is found of `YANK$$$` on the way agrees with the final counts: whatever can take an entry of a card is younger than the card.
-use Rattle.std.proofs.Common.{◌≡◌, ℕ, ◌≤◌, Bool, true, false, not, ◌&&◌, ◌||◌, if◌then◌else◌, List, [], ◌∷◌, ◌++◌, length, Some, refl, ap, sym, ◌∙◌, subst}
-use Rattle.std.proofs.Common.{arith, length-append, append-nil}
-use Rattle.std.specs.Prelude.{◌==◌}
-use Rattle.std.specs.List.{list_any, filter, AllByRecursion}
-use Rattle.std.proofs.lemmas.Bool.{ne_eqb, or_left, or_right}
-use Rattle.std.proofs.lemmas.List.Folds.{list_any-append}
-use Rattle.upd_core.specs.declared.card.Entry.{Entry}
-use Rattle.upd_core.specs.declared.target.Target.{Target}
-use Rattle.upd_core.specs.declared.target.Target.TheVariants.{Set, SetIn, Deck}
-use Rattle.upd_core.specs.Counted.{CountedCardView}
-use Rattle.upd_core.specs.Library.{CardView, LibraryView}
-use Rattle.upd_core.specs.Reach.{is_flipped, is_retaken, is_reached}
-use Rattle.upd_core.specs.Status.{HasEntriesFrom, IsAged, TakesOlder, live_cards, status_of}
-use Rattle.upd_core.specs.TargetCounts.{count_on}
-use Rattle.upd_core.specs.Targets.{is_same}
-use Rattle.upd_records.specs.Rows.{same_ref}
-use Rattle.upd_text.specs.declared.card_ref.CardRef.{CardRef}
+use Rattle.upd_yank.proofs.Common.{◌≡◌, ℕ, ◌≤◌, Bool, true, false, not, ◌&&◌, ◌||◌, if◌then◌else◌, List, [], ◌∷◌, ◌++◌, length, Some, refl, ap, sym, ◌∙◌}
+use Rattle.upd_yank.proofs.Common.{subst, arith, length-append, append-nil, ◌==◌, list_any, filter, AllByRecursion, ne_eqb, or_left, or_right}
+use Rattle.upd_yank.proofs.Common.{list_any-append, Entry, Target, Set, SetIn, Deck, CountedCardView, CardView, LibraryView, is_flipped, is_retaken}
+use Rattle.upd_yank.proofs.Common.{is_reached, IsAged, live_cards, status_of, count_on, is_same, same_ref, CardRef, same_ref_own, AreYanks, IsRightBefore}
+use Rattle.upd_yank.proofs.Common.{TakesNoYanks, found_of, found_others, found_yanks, is_active_by, is_due, is_taken_by, live_now, views}
+use Rattle.upd_core.specs.Status.{HasEntriesFrom, TakesOlder}
 use Rattle.upd_yank.proofs.FlipLemmas.{same_stays}
-use Rattle.upd_records.proofs.EqualLemmas.{same_ref_own}
 use Rattle.upd_yank.proofs.SettleLemmas.{count_behind, settled_is}
-use Rattle.upd_yank.specs.Cascade.{AreYanks, IsRightBefore, TakesNoYanks, found_of, found_others, found_yanks, is_active_by, is_due, is_taken_by, live_now, views}
 
 -- ---- lists
 

@@ -1,4 +1,4 @@
-use Rattle.std.proofs.Common.{ap, ◌∙◌}
+use Rattle.upd_apply.proofs.Common.{ap, ◌∙◌}
 use Rattle.upd_apply.proofs.DirectoryLemmas.{goes_on_from}
 use Rattle.upd_apply.proofs.applying.apply.Goals as goal
 

@@ -1,6 +1,4 @@
-use Rattle.std.proofs.Common.{◌+◌, ◌≤◌, arith}
-use Rattle.std.proofs.lemmas.Grind.{common_steps}
-use Rattle.upd_apply.specs.Numbers.{next_most}
+use Rattle.upd_apply.proofs.Common.{◌+◌, ◌≤◌, arith, common_steps, next_most}
 use Rattle.upd_apply.proofs.StepLemmas.{line_rises}
 use Rattle.upd_apply.proofs.applying.take_steps.Goals as goal
 

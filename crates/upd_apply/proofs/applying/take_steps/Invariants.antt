@@ -1,6 +1,4 @@
-use Rattle.std.proofs.Common.{◌≡◌, ◌+◌, ◌≤◌, drop}
-use Rattle.upd_apply.specs.Applying.{stepped}
-use Rattle.upd_apply.specs.Numbers.{next_most}
+use Rattle.upd_apply.proofs.Common.{◌≡◌, ◌+◌, ◌≤◌, drop, stepped, next_most}
 use Rattle.upd_apply.proofs.applying.take_steps.Given as goal
 
 abbrev pub invariant-loop-line : goal.invariant-loop-line

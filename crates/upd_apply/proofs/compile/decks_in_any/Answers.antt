@@ -1,9 +1,4 @@
-use Rattle.std.proofs.lemmas.Grind.{common_steps}
-use Rattle.std.proofs.Common.{arith, ◌&&◌, Bool, true, false}
-use Rattle.std.specs.List.{list_any}
-use Rattle.upd_core.specs.declared.ident.Ident.{Ident}
-use Rattle.upd_core.specs.Library.{is_deck_kind}
-use Rattle.upd_apply.specs.Names.{is_in}
+use Rattle.upd_apply.proofs.Common.{common_steps, arith, ◌&&◌, Bool, true, false, list_any, Ident, is_deck_kind, is_in}
 use Rattle.upd_apply.proofs.Filtered.{filter_more}
 use Rattle.upd_apply.proofs.compile.decks_in_any.Goals as goal
 use Rattle.upd_apply.proofs.compile.decks_in_any.Goals.{then-is_deck_in_any+in_ok-push, else-is_deck_in_any}

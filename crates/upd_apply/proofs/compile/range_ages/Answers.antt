@@ -1,8 +1,4 @@
-use Rattle.std.proofs.Common.{◌≡◌, [], ◌∷◌, ap, sym, ◌∙◌, arith, Ok, Err}
-use Rattle.std.proofs.lemmas.Grind.{common_steps}
-use Rattle.upd_text.specs.Outcome.{◌>>=◌}
-use Rattle.upd_text.proofs.EachLemmas.{each_behind-none, each_more, each_refused}
-use Rattle.upd_apply.specs.Compile.{range_ages}
+use Rattle.upd_apply.proofs.Common.{◌≡◌, [], ◌∷◌, ap, sym, ◌∙◌, arith, Ok, Err, common_steps, ◌>>=◌, each_behind-none, each_more, each_refused, range_ages}
 use Rattle.upd_apply.proofs.compile.range_ages.Goals as goal
 
 pub loop-range-init : goal.loop-range-init

@@ -1,6 +1,4 @@
-use Rattle.upd_text.specs.Outcome.{at_line}
-use Rattle.upd_text.proofs.EachLemmas.{each_behind-none}
-use Rattle.upd_apply.specs.Compile.{line_ranges}
+use Rattle.upd_apply.proofs.Common.{at_line, each_behind-none, line_ranges}
 use Rattle.upd_apply.proofs.compile.ranges_named.Goals as goal
 
 pub loop-line-init : goal.loop-line-init

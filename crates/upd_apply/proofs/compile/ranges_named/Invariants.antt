@@ -1,7 +1,5 @@
-use Rattle.std.proofs.Common.{◌≡◌, drop}
-use Rattle.upd_text.proofs.EachLemmas.{each_behind}
-use Rattle.upd_text.specs.Outcome.{at_line}
-use Rattle.upd_apply.specs.Compile.{line_ranges, ranges_named}
+use Rattle.upd_apply.proofs.Common.{◌≡◌, drop, each_behind, at_line, line_ranges}
+use Rattle.upd_apply.specs.Compile.{ranges_named}
 use Rattle.upd_apply.proofs.compile.ranges_named.Given as goal
 
 abbrev pub invariant-loop-line : goal.invariant-loop-line

@@ -1,7 +1,4 @@
-use Rattle.std.proofs.Common.{◌≡◌, ◌&&◌, ◌++◌, map, drop}
-use Rattle.std.specs.List.{filter}
-use Rattle.upd_core.specs.Library.{is_deck_kind}
-use Rattle.upd_apply.specs.Names.{is_in}
+use Rattle.upd_apply.proofs.Common.{◌≡◌, ◌&&◌, ◌++◌, map, drop, filter, is_deck_kind, is_in}
 use Rattle.upd_apply.proofs.purges.add_decks.Given as goal
 
 abbrev pub invariant-loop-ident : goal.invariant-loop-ident

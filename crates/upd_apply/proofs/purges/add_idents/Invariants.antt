@@ -1,6 +1,4 @@
-use Rattle.std.proofs.Common.{◌≡◌, ◌&&◌, ◌++◌, map, drop}
-use Rattle.std.specs.List.{filter}
-use Rattle.upd_apply.specs.Names.{is_in}
+use Rattle.upd_apply.proofs.Common.{◌≡◌, ◌&&◌, ◌++◌, map, drop, filter, is_in}
 use Rattle.upd_apply.proofs.purges.add_idents.Given as goal
 
 abbrev pub invariant-loop-ident : goal.invariant-loop-ident

@@ -1,9 +1,5 @@
-use Rattle.std.proofs.Common.{◌≡◌, ap, sym, ◌∙◌, arith, Ok, Err}
-use Rattle.std.proofs.lemmas.Grind.{common_steps}
-use Rattle.upd_text.specs.Outcome.{◌>>=◌}
-use Rattle.upd_text.proofs.EachLemmas.{each_behind-none, each_more, each_refused}
+use Rattle.upd_apply.proofs.Common.{◌≡◌, ap, sym, ◌∙◌, arith, Ok, Err, common_steps, ◌>>=◌, each_behind-none, each_more, each_refused, range_decks}
 use Rattle.upd_apply.specs.Names.{decks_in}
-use Rattle.upd_apply.specs.Purges.{range_decks}
 use Rattle.upd_apply.proofs.purges.decks_purged.Goals as goal
 
 pub loop-range-init : goal.loop-range-init

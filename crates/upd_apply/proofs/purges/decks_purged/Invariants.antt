@@ -1,6 +1,4 @@
-use Rattle.std.proofs.Common.{◌≡◌, drop}
-use Rattle.upd_text.proofs.EachLemmas.{each_behind}
-use Rattle.upd_apply.specs.Purges.{range_decks, decks_purged}
+use Rattle.upd_apply.proofs.Common.{◌≡◌, drop, each_behind, range_decks, decks_purged}
 use Rattle.upd_apply.proofs.purges.decks_purged.Given as goal
 
 abbrev pub invariant-loop-range : goal.invariant-loop-range

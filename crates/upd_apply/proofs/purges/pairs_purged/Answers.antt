@@ -1,7 +1,4 @@
-use Rattle.std.proofs.Common.{◌≡◌, [], ◌∷◌, arith, Ok, Err}
-use Rattle.std.proofs.lemmas.Grind.{common_steps}
-use Rattle.upd_text.proofs.EachLemmas.{each_behind-none, each_more, each_refused}
-use Rattle.upd_apply.specs.Purges.{pair_ages}
+use Rattle.upd_apply.proofs.Common.{◌≡◌, [], ◌∷◌, arith, Ok, Err, common_steps, each_behind-none, each_more, each_refused, pair_ages}
 use Rattle.upd_apply.proofs.purges.pairs_purged.Goals as goal
 
 pub loop-pair-init : goal.loop-pair-init

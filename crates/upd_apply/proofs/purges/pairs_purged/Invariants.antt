@@ -1,6 +1,4 @@
-use Rattle.std.proofs.Common.{◌≡◌, drop}
-use Rattle.upd_text.proofs.EachLemmas.{each_behind}
-use Rattle.upd_apply.specs.Purges.{pair_ages, pairs_purged}
+use Rattle.upd_apply.proofs.Common.{◌≡◌, drop, each_behind, pair_ages, pairs_purged}
 use Rattle.upd_apply.proofs.purges.pairs_purged.Given as goal
 
 abbrev pub invariant-loop-pair : goal.invariant-loop-pair

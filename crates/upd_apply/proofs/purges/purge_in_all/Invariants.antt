@@ -1,5 +1,4 @@
-use Rattle.std.proofs.Common.{◌≡◌, drop}
-use Rattle.upd_apply.specs.LineEdits.{purged_in_all}
+use Rattle.upd_apply.proofs.Common.{◌≡◌, drop, purged_in_all}
 use Rattle.upd_apply.proofs.purges.purge_in_all.Given as goal
 
 abbrev pub invariant-loop-pair : goal.invariant-loop-pair

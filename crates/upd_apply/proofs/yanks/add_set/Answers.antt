@@ -1,7 +1,4 @@
-use Rattle.std.proofs.Common.{arith}
-use Rattle.std.proofs.lemmas.Grind.{common_steps}
-use Rattle.upd_core.specs.declared.target.Target.TheVariants.{Set}
-use Rattle.upd_core.specs.Targets.{is_same}
+use Rattle.upd_apply.proofs.Common.{arith, common_steps, Set, is_same}
 use Rattle.upd_apply.proofs.OnceLemmas.{one_more}
 use Rattle.upd_apply.proofs.TargetLemmas.{same_target}
 use Rattle.upd_apply.proofs.yanks.add_set.Goals as goal

@@ -1,10 +1,4 @@
-use Rattle.std.proofs.Common.{◌≡◌, ◌&&◌, ◌∷◌, [], ◌++◌, arith, Bool, true, false}
-use Rattle.std.proofs.lemmas.Grind.{common_steps}
-use Rattle.upd_core.specs.declared.ident.Ident.{Ident}
-use Rattle.upd_core.specs.declared.target.Target.TheVariants.{Set}
-use Rattle.upd_apply.specs.Names.{is_in}
-use Rattle.upd_core.specs.Targets.{is_same}
-use Rattle.upd_apply.specs.Yanks.{once}
+use Rattle.upd_apply.proofs.Common.{◌≡◌, ◌&&◌, ◌∷◌, [], ◌++◌, arith, Bool, true, false, common_steps, Ident, Set, is_in, is_same, once}
 use Rattle.upd_apply.proofs.OnceLemmas.{filter_once, once_once}
 use Rattle.upd_apply.proofs.TargetLemmas.{same_target}
 use Rattle.upd_apply.proofs.yanks.add_sets.Goals as goal

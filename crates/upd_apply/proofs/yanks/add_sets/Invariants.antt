@@ -1,10 +1,4 @@
-use Rattle.std.proofs.Common.{◌≡◌, ◌&&◌, ◌++◌, drop, map}
-use Rattle.std.specs.List.{filter}
-use Rattle.upd_core.specs.declared.target.Target.TheVariants.{Set}
-use Rattle.upd_apply.specs.Marks.{AreMarked}
-use Rattle.upd_apply.specs.Names.{is_in}
-use Rattle.upd_core.specs.Targets.{is_same}
-use Rattle.upd_apply.specs.Yanks.{once}
+use Rattle.upd_apply.proofs.Common.{◌≡◌, ◌&&◌, ◌++◌, drop, map, filter, Set, AreMarked, is_in, is_same, once}
 use Rattle.upd_apply.proofs.yanks.add_sets.Given as goal
 
 abbrev pub invariant-loop-ident : goal.invariant-loop-ident

@@ -1,6 +1,4 @@
-use Rattle.std.proofs.Common.{arith}
-use Rattle.std.proofs.lemmas.Grind.{common_steps}
-use Rattle.upd_core.specs.Targets.{is_same}
+use Rattle.upd_apply.proofs.Common.{arith, common_steps, is_same}
 use Rattle.upd_apply.proofs.OnceLemmas.{one_more}
 use Rattle.upd_apply.proofs.TargetLemmas.{same_target}
 use Rattle.upd_apply.proofs.yanks.add_target.Goals as goal

@@ -1,7 +1,4 @@
-use Rattle.std.proofs.Common.{◌≡◌, ◌∷◌, [], arith, Ok, Err}
-use Rattle.std.proofs.lemmas.Grind.{common_steps}
-use Rattle.upd_core.specs.Targets.{is_same}
-use Rattle.upd_apply.specs.Yanks.{deck_targets}
+use Rattle.upd_apply.proofs.Common.{◌≡◌, ◌∷◌, [], arith, Ok, Err, common_steps, is_same, deck_targets}
 use Rattle.upd_apply.proofs.OnceLemmas.{once_more, once_once, once_refused}
 use Rattle.upd_apply.proofs.TargetLemmas.{same_target}
 use Rattle.upd_apply.proofs.yanks.decks_yanked.Goals as goal

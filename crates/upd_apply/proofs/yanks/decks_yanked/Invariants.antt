@@ -1,7 +1,4 @@
-use Rattle.std.proofs.Common.{◌≡◌, ◌++◌, drop, Ok}
-use Rattle.upd_text.specs.Outcome.{◌>>=◌, each}
-use Rattle.upd_core.specs.Targets.{is_same}
-use Rattle.upd_apply.specs.Yanks.{deck_targets, decks_yanked, once}
+use Rattle.upd_apply.proofs.Common.{◌≡◌, ◌++◌, drop, Ok, ◌>>=◌, each, is_same, deck_targets, decks_yanked, once}
 use Rattle.upd_apply.proofs.yanks.decks_yanked.Given as goal
 
 abbrev pub invariant-loop-name : goal.invariant-loop-name

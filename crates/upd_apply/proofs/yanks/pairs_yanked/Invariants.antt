@@ -1,7 +1,4 @@
-use Rattle.std.proofs.Common.{◌≡◌, ◌++◌, drop, Ok}
-use Rattle.upd_text.specs.Outcome.{◌>>=◌, each}
-use Rattle.upd_core.specs.Targets.{is_same}
-use Rattle.upd_apply.specs.Yanks.{once, pair_targets, pairs_yanked}
+use Rattle.upd_apply.proofs.Common.{◌≡◌, ◌++◌, drop, Ok, ◌>>=◌, each, is_same, once, pair_targets, pairs_yanked}
 use Rattle.upd_apply.proofs.yanks.pairs_yanked.Given as goal
 
 abbrev pub invariant-loop-pair : goal.invariant-loop-pair

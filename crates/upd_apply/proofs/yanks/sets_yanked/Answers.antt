@@ -1,9 +1,4 @@
-use Rattle.std.proofs.Common.{◌≡◌, map, arith, Ok, Err}
-use Rattle.std.proofs.lemmas.Grind.{common_steps}
-use Rattle.upd_core.specs.declared.target.Target.TheVariants.{Set}
-use Rattle.upd_apply.specs.Names.{idents_in}
-use Rattle.upd_core.specs.Targets.{is_same}
-use Rattle.upd_apply.specs.Yanks.{range_targets}
+use Rattle.upd_apply.proofs.Common.{◌≡◌, map, arith, Ok, Err, common_steps, Set, idents_in, is_same, range_targets}
 use Rattle.upd_apply.proofs.OnceLemmas.{once_more, once_once, once_refused}
 use Rattle.upd_apply.proofs.TargetLemmas.{same_target}
 use Rattle.upd_apply.proofs.yanks.sets_yanked.Goals as goal

@@ -1,8 +1,4 @@
-use Rattle.std.proofs.Common.{◌≡◌, ◌++◌, drop, Ok}
-use Rattle.upd_text.specs.Outcome.{◌>>=◌, each}
-use Rattle.upd_apply.specs.Marks.{AreMarked}
-use Rattle.upd_core.specs.Targets.{is_same}
-use Rattle.upd_apply.specs.Yanks.{once, range_targets, sets_yanked}
+use Rattle.upd_apply.proofs.Common.{◌≡◌, ◌++◌, drop, Ok, ◌>>=◌, each, AreMarked, is_same, once, range_targets, sets_yanked}
 use Rattle.upd_apply.proofs.yanks.sets_yanked.Given as goal
 
 abbrev pub invariant-loop-range : goal.invariant-loop-range

@@ -27,7 +27,8 @@ returns-in-Trial-clause-waits g c = λ no.
     c.carry_out_trial-ended.ensures.waits (none_of (mode_named c.in-Trial.mode.now) (λ some. no (subst ReadsFor (sym c.in-Trial.is) some)))
 
 pub returns-in-Init-clause-done : goal.returns-in-Init-clause-done
-returns-in-Init-clause-done g c = done_as c.args.request.now _ _ c.in-Init.is (Appends-nil (g.W.Write.contents c.args.output.now), c.carry_out_init.ensures.made)
+returns-in-Init-clause-done g c =
+    done_as c.args.request.now _ _ c.in-Init.is (Appends-nil (g.W.Write.contents c.args.output.now), c.carry_out_init.ensures.made)
 
 pub returns-in-Library-clause-done : goal.returns-in-Library-clause-done
 returns-in-Library-clause-done g c =

@@ -11,5 +11,6 @@ returns-in-Ok-clause-leaves g c =
 
 pub returns-in-Ok-clause-front : goal.returns-in-Ok-clause-front
 returns-in-Ok-clause-front g c =
-    front_all c.args.command.now _ (g.R.Read.remaining c.read_first.new.input) _ c.in-Ok.ensures.front (λ none. ap g.R.Read.remaining (c.in-Ok.ensures.waits none))
+    front_all c.args.command.now _ (g.R.Read.remaining c.read_first.new.input) _ c.in-Ok.ensures.front
+    (λ none. ap g.R.Read.remaining (c.in-Ok.ensures.waits none))
     (λ none. ap g.R.Read.remaining (c.with_text.ensures.frames.waits none)) c.with_text.ensures.frames.front

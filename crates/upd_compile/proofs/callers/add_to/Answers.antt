@@ -1,9 +1,6 @@
-use Rattle.std.proofs.Common.{◌≡◌, ◌∙◌, ◌<◌, ◌==◌, ◌&&◌, ℕ, List, [], ◌∷◌, ◌++◌, Some, Vec, Global, map, length, slice_get, refl, sym, subst, arith}
-use Rattle.std.proofs.lemmas.Grind.{common_steps}
+use Rattle.upd_compile.proofs.Common.{◌≡◌, ◌∙◌, ◌<◌, ◌==◌, ◌&&◌, ℕ, List, [], ◌∷◌, ◌++◌, Some, Vec, Global, map, length, slice_get, refl, sym, subst, arith}
+use Rattle.upd_compile.proofs.Common.{common_steps, gets, slice_get-map, slice_get_within, set, FollowsMore}
 use Rattle.std.proofs.lemmas.List.{map-set}
-use Rattle.std.proofs.lemmas.Option.{gets, slice_get-map, slice_get_within}
-use Rattle.std.proofs.Math.ListN.{set}
-use Rattle.upd_compile.specs.Reach.{FollowsMore}
 use Rattle.upd_compile.proofs.FollowLemmas.{FollowsMore-one}
 use Rattle.upd_compile.proofs.callers.add_to.Goals as goal
 

@@ -1,7 +1,4 @@
-use Rattle.std.proofs.lemmas.Grind.{common_steps}
-use Rattle.std.proofs.Common.{arith, ◌∙◌, ◌+◌, ◌==◌, ◌&&◌, ap, take, slice_index}
-use Rattle.std.proofs.lemmas.List.{take_more}
-use Rattle.upd_compile.specs.Reach.{is_in}
+use Rattle.upd_compile.proofs.Common.{common_steps, arith, ◌∙◌, ◌+◌, ◌==◌, ◌&&◌, ap, take, slice_index, take_more, is_in}
 use Rattle.upd_compile.proofs.FollowLemmas.{FollowsMore-then, and-or}
 use Rattle.upd_compile.proofs.ReachLemmas.{is_in-push}
 use Rattle.upd_compile.proofs.callers.add_to_all.Goals as goal

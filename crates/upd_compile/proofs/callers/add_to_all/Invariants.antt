@@ -1,5 +1,4 @@
-use Rattle.std.proofs.Common.{◌==◌, ◌&&◌, map, take}
-use Rattle.upd_compile.specs.Reach.{FollowsMore, is_in}
+use Rattle.upd_compile.proofs.Common.{◌==◌, ◌&&◌, map, take, FollowsMore, is_in}
 use Rattle.upd_compile.proofs.callers.add_to_all.Given as goal
 
 abbrev pub invariant-loop-position : goal.invariant-loop-position

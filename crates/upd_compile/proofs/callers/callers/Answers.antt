@@ -1,7 +1,5 @@
-use Rattle.std.proofs.Common.{◌≡◌, ◌∙◌, ◌<◌, ℕ, List, Vec, Global, true, false, Some, sym, refl, map, length, get_or, slice_get, rules, arith}
-use Rattle.std.proofs.lemmas.Grind.{common_steps}
-use Rattle.std.proofs.lemmas.List.{length-map}
-use Rattle.std.proofs.lemmas.Option.{gets, slice_get-map}
+use Rattle.upd_compile.proofs.Common.{◌≡◌, ◌∙◌, ◌<◌, ℕ, List, Vec, Global, true, false, Some, sym, refl, map, length, get_or, slice_get, rules, arith}
+use Rattle.upd_compile.proofs.Common.{common_steps, length-map, gets, slice_get-map}
 use Rattle.upd_compile.proofs.FollowLemmas.{callers-all, callers-more, callers-same}
 use Rattle.upd_compile.proofs.callers.callers.Goals as goal
 use Rattle.upd_compile.proofs.callers.callers.Goals.{then-flags-position+in_ok-add_to_all, else-flags-position}

@@ -1,5 +1,4 @@
-use Rattle.std.proofs.Common.{◌&&◌, map, take}
-use Rattle.upd_compile.specs.Reach.{FollowsMore, follows, is_flagged}
+use Rattle.upd_compile.proofs.Common.{◌&&◌, map, take, FollowsMore, follows, is_flagged}
 use Rattle.upd_compile.proofs.callers.callers.Given as goal
 
 abbrev pub invariant-loop-position : goal.invariant-loop-position

@@ -1,4 +1,4 @@
-use Rattle.std.proofs.Common.{◌≡◌, [], map, replicate}
+use Rattle.upd_compile.proofs.Common.{◌≡◌, [], map, replicate}
 use Rattle.upd_compile.proofs.callers.empty_lists.Given as goal
 
 abbrev pub invariant-loop-position : goal.invariant-loop-position

@@ -1,6 +1,4 @@
-use Rattle.std.proofs.Common.{◌≡◌, true, rules}
-use Rattle.upd_text.specs.Lines.{is_call, called}
-use Rattle.upd_compile.specs.Positions.{position_named}
+use Rattle.upd_compile.proofs.Common.{◌≡◌, true, rules, is_call, called, position_named}
 use Rattle.upd_compile.proofs.chains.called_position.Goals as goal
 
 pub returns-then-is_call : goal.returns-then-is_call

@@ -1,5 +1,4 @@
-use Rattle.std.proofs.Common.{◌≡◌, map, take}
-use Rattle.upd_compile.specs.Positions.{called_positions}
+use Rattle.upd_compile.proofs.Common.{◌≡◌, map, take, called_positions}
 use Rattle.upd_compile.proofs.chains.calls.Given as goal
 
 abbrev pub invariant-loop-deck : goal.invariant-loop-deck

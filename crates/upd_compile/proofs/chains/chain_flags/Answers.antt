@@ -1,10 +1,5 @@
-use Rattle.std.proofs.Common.{◌≡◌, ◌∙◌, ◌&&◌, ℕ, List, Vec, Global, map, length, sym, ap}
-use Rattle.std.specs.List.{list_any, zip}
-use Rattle.std.proofs.lemmas.List.{length-map}
-use Rattle.std.proofs.lemmas.Result.{IfOk-weaker}
-use Rattle.upd_compile.specs.Chosen.{is_changed, is_passed_on}
-use Rattle.upd_compile.specs.Positions.{called_positions}
-use Rattle.upd_compile.specs.Reach.{AreCallers, AreReached, is_flagged}
+use Rattle.upd_compile.proofs.Common.{◌≡◌, ◌∙◌, ◌&&◌, ℕ, List, Vec, Global, map, length, sym, ap, list_any, zip, length-map, IfOk-weaker, is_changed}
+use Rattle.upd_compile.proofs.Common.{is_passed_on, called_positions, AreCallers, AreReached, is_flagged}
 use Rattle.upd_compile.proofs.SpreadLemmas.{chains-visited, is_flagged-both, is_flagged-map, length-both}
 use Rattle.upd_compile.proofs.chains.chain_flags.Goals as goal
 

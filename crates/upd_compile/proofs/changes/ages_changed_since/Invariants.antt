@@ -1,6 +1,4 @@
-use Rattle.std.proofs.Common.{◌≡◌, map, take}
-use Rattle.std.specs.List.{filter}
-use Rattle.upd_compile.specs.Chosen.{is_changed}
+use Rattle.upd_compile.proofs.Common.{◌≡◌, map, take, filter, is_changed}
 use Rattle.upd_compile.proofs.changes.ages_changed_since.Given as goal
 
 abbrev pub invariant-loop-deck : goal.invariant-loop-deck

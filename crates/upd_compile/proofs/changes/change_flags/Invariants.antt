@@ -1,5 +1,4 @@
-use Rattle.std.proofs.Common.{◌≡◌, map, take}
-use Rattle.upd_compile.specs.Chosen.{is_changed}
+use Rattle.upd_compile.proofs.Common.{◌≡◌, map, take, is_changed}
 use Rattle.upd_compile.proofs.changes.change_flags.Given as goal
 
 abbrev pub invariant-loop-deck : goal.invariant-loop-deck

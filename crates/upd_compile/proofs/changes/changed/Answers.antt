@@ -1,4 +1,4 @@
-use Rattle.std.proofs.Common.{rules}
+use Rattle.upd_compile.proofs.Common.{rules}
 use Rattle.upd_compile.proofs.changes.changed.Goals as goal
 
 pub returns-clause-ok : goal.returns-clause-ok

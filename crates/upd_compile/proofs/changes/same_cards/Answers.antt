@@ -1,7 +1,5 @@
-use Rattle.std.proofs.lemmas.Grind.{common_steps}
-use Rattle.std.proofs.Common.{arith, ◌≡◌, suc, true, false, ◌&&◌, List, [], ◌∷◌, length, refl, sym, ap}
-use Rattle.upd_core.specs.Actives.{ActiveCardView}
-use Rattle.upd_compile.specs.Chosen.{same_card, same_cards}
+use Rattle.upd_compile.proofs.Common.{common_steps, arith, ◌≡◌, suc, true, false, ◌&&◌, List, [], ◌∷◌, length, refl, sym, ap, ActiveCardView, same_cards}
+use Rattle.upd_compile.specs.Chosen.{same_card}
 use Rattle.upd_compile.proofs.changes.same_cards.Goals as goal
 
 -- lists of different lengths differ

@@ -1,5 +1,4 @@
-use Rattle.std.proofs.Common.{◌≡◌, drop}
-use Rattle.upd_compile.specs.Chosen.{same_cards}
+use Rattle.upd_compile.proofs.Common.{◌≡◌, drop, same_cards}
 use Rattle.upd_compile.proofs.changes.same_cards.Given as goal
 
 abbrev pub invariant-loop-i : goal.invariant-loop-i

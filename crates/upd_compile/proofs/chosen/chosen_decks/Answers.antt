@@ -1,6 +1,4 @@
-use Rattle.std.proofs.Common.{◌∙◌, ap, length}
-use Rattle.std.proofs.lemmas.List.{length-map}
-use Rattle.std.proofs.lemmas.Result.{IfOk-weaker}
+use Rattle.upd_compile.proofs.Common.{◌∙◌, ap, length, length-map, IfOk-weaker}
 use Rattle.upd_compile.specs.Chosen.{chooses}
 use Rattle.upd_compile.proofs.chosen.chosen_decks.Goals as goal
 

@@ -1,7 +1,5 @@
-use Rattle.std.proofs.Common.{◌≡◌, ◌∙◌, map}
-use Rattle.std.proofs.lemmas.Result.{IfOk-weaker}
+use Rattle.upd_compile.proofs.Common.{◌≡◌, ◌∙◌, map, IfOk-weaker, has_chain, is_changed}
 use Rattle.upd_core.specs.Edits.{is_among}
-use Rattle.upd_compile.specs.Chosen.{has_chain, is_changed}
 use Rattle.upd_compile.proofs.ChosenLemmas.{any-map}
 use Rattle.upd_compile.proofs.chosen.normal_flags.Goals as goal
 

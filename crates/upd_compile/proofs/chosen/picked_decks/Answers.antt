@@ -1,5 +1,4 @@
-use Rattle.std.proofs.Common.{arith}
-use Rattle.std.proofs.lemmas.Grind.{common_steps}
+use Rattle.upd_compile.proofs.Common.{arith, common_steps}
 use Rattle.upd_compile.proofs.chosen.picked_decks.Goals as goal
 
 pub loop-i-preserved : goal.loop-i-preserved

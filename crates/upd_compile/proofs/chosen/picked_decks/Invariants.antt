@@ -1,7 +1,4 @@
-use Rattle.std.proofs.Common.{◌≡◌, Bool, ◌&&◌, not, map, take}
-use Rattle.std.specs.List.{filter}
-use Rattle.upd_core.specs.Actives.{ActiveDeckView}
-use Rattle.upd_compile.specs.Chosen.{is_common_deck}
+use Rattle.upd_compile.proofs.Common.{◌≡◌, Bool, ◌&&◌, not, map, take, filter, ActiveDeckView, is_common_deck}
 use Rattle.upd_compile.proofs.chosen.picked_decks.Given as goal
 
 abbrev pub invariant-loop-i : goal.invariant-loop-i

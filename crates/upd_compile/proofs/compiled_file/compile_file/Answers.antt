@@ -1,5 +1,4 @@
-use Rattle.std.proofs.Common.{arith}
-use Rattle.std.proofs.lemmas.Grind.{common_steps}
+use Rattle.upd_compile.proofs.Common.{arith, common_steps}
 use Rattle.upd_compile.proofs.compiled_file.compile_file.Goals as goal
 
 pub returns-in_err-after : goal.returns-in_err-after

@@ -1,11 +1,7 @@
-use Rattle.std.proofs.Common.{rules, ◌≡◌, ◌∙◌, Ok, Result, List, map, sym, subst, refl}
-use Rattle.std.specs.List.{flat_map}
+use Rattle.upd_compile.proofs.Common.{rules, ◌≡◌, ◌∙◌, Ok, Result, List, map, sym, subst, refl, flat_map, MAX_DEPTH, FileView, after_events, at_start}
+use Rattle.upd_compile.proofs.Common.{WalkEvent, walk}
 use Rattle.upd_text.specs.declared.fault.Fault.{Fault}
-use Rattle.upd_text.specs.declared.limits.TheConstants.{MAX_DEPTH}
 use Rattle.upd_text.specs.Outcome.{FailsAt}
-use Rattle.upd_compile.specs.File.{FileView}
-use Rattle.upd_compile.specs.Progress.{after_events, at_start}
-use Rattle.upd_compile.specs.Walk.{WalkEvent, walk}
 use Rattle.upd_compile.proofs.WrittenLemmas.{written-is}
 use Rattle.upd_compile.proofs.compiled_file.file_of_walks.Goals as goal
 

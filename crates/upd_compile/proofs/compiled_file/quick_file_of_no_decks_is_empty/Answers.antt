@@ -1,9 +1,5 @@
-use Rattle.std.proofs.Common.{◌≡◌, Bool, true, false, not, ◌&&◌, if◌then◌else◌, List, [], ◌∷◌, refl, ap}
-use Rattle.std.specs.List.{filter, flat_map}
-use Rattle.upd_text.specs.declared.limits.TheConstants.{MAX_DEPTH}
-use Rattle.upd_compile.specs.Chosen.{is_common_deck}
-use Rattle.upd_compile.specs.File.{written}
-use Rattle.upd_compile.specs.Walk.{walk}
+use Rattle.upd_compile.proofs.Common.{◌≡◌, Bool, true, false, not, ◌&&◌, if◌then◌else◌, List, [], ◌∷◌, refl, ap, filter, flat_map, MAX_DEPTH, is_common_deck}
+use Rattle.upd_compile.proofs.Common.{written, walk}
 use Rattle.upd_compile.proofs.compiled_file.quick_file_of_no_decks_is_empty.Goals as goal
 
 none_first : {A : Type 0} (x : A) (later : List A) (b : Bool) → later ≡ [] → (if b && false then x ∷ later else later) ≡ []

@@ -1,6 +1,4 @@
-use Rattle.std.proofs.Common.{◌≡◌, map, take}
-use Rattle.std.specs.List.{list_any}
-use Rattle.upd_compile.specs.Reach.{is_flagged}
+use Rattle.upd_compile.proofs.Common.{◌≡◌, map, take, list_any, is_flagged}
 use Rattle.upd_compile.proofs.flags.calls_flagged.Given as goal
 
 abbrev pub invariant-loop-positions : goal.invariant-loop-positions

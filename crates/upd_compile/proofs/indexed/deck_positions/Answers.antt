@@ -1,5 +1,4 @@
-use Rattle.std.proofs.Common.{arith}
-use Rattle.std.proofs.lemmas.Grind.{common_steps}
+use Rattle.upd_compile.proofs.Common.{arith, common_steps}
 use Rattle.upd_compile.proofs.indexed.deck_positions.Goals as goal
 
 pub loop-i-preserved : goal.loop-i-preserved

@@ -1,6 +1,6 @@
-use Rattle.std.proofs.Common.{◌≡◌, ◌==◌, ℕ, nat_eq, drop}
+use Rattle.upd_compile.proofs.Common.{◌≡◌, ◌==◌, ℕ, drop, index_from}
+use Rattle.std.proofs.Common.{nat_eq}
 use Rattle.std.specs.HashMap as hash
-use Rattle.upd_core.specs.First.{index_from}
 use Rattle.upd_compile.proofs.indexed.deck_positions.Given as goal
 
 abbrev pub invariant-loop-i : goal.invariant-loop-i

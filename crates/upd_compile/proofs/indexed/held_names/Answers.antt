@@ -1,12 +1,6 @@
-use Rattle.std.proofs.lemmas.Grind.{common_steps}
-use Rattle.std.proofs.Common.{arith, ◌≡◌, ℕ, ◌+◌, ◌-◌, ◌∙◌, Bool, true, false, ◌&&◌, cond, List, ◌∷◌, Some, drop, refl, rules}
-use Rattle.std.specs.Option.{option_map}
-use Rattle.std.specs.Str.{bytes_eq}
-use Rattle.std.proofs.lemmas.List.{at_drop_more}
+use Rattle.upd_compile.proofs.Common.{common_steps, arith, ◌≡◌, ℕ, ◌+◌, ◌-◌, ◌∙◌, Bool, true, false, ◌&&◌, cond, List, ◌∷◌, Some, drop, refl, rules}
+use Rattle.upd_compile.proofs.Common.{option_map, bytes_eq, at_drop_more, Ident, held_named, kind_and_age, held_kind}
 use Rattle.std.proofs.lemmas.Map.Text.{hash_map_updates_str}
-use Rattle.upd_core.specs.declared.ident.Ident.{Ident}
-use Rattle.upd_core.specs.Library.{held_named}
-use Rattle.upd_compile.specs.Positions.{kind_and_age, held_kind}
 use Rattle.upd_compile.proofs.indexed.held_names.Goals as goal
 
 -- one more held ident in front

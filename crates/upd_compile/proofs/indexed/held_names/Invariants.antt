@@ -1,7 +1,5 @@
-use Rattle.std.proofs.Common.{◌≡◌, ℕ, List, drop}
+use Rattle.upd_compile.proofs.Common.{◌≡◌, ℕ, List, drop, bytes_eq, held_kind}
 use Rattle.std.specs.HashMap as hash
-use Rattle.std.specs.Str.{bytes_eq}
-use Rattle.upd_compile.specs.Positions.{held_kind}
 use Rattle.upd_compile.proofs.indexed.held_names.Given as goal
 
 abbrev pub invariant-loop-i : goal.invariant-loop-i

@@ -1,4 +1,4 @@
-use Rattle.std.proofs.Common.{rules}
+use Rattle.upd_compile.proofs.Common.{rules}
 use Rattle.upd_compile.proofs.listings.list_card.Goals as goal
 
 pub returns : goal.returns

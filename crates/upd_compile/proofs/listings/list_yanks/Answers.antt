@@ -1,5 +1,4 @@
-use Rattle.std.proofs.Common.{arith}
-use Rattle.std.proofs.lemmas.Grind.{common_steps}
+use Rattle.upd_compile.proofs.Common.{arith, common_steps}
 use Rattle.upd_compile.proofs.listings.list_yanks.Goals as goal
 
 pub returns-in_err-live-clause-ok : goal.returns-in_err-live-clause-ok

@@ -1,5 +1,4 @@
-use Rattle.std.proofs.Common.{arith}
-use Rattle.std.proofs.lemmas.Grind.{common_steps}
+use Rattle.upd_compile.proofs.Common.{arith, common_steps}
 use Rattle.upd_compile.proofs.listings.push_card_lines.Goals as goal
 
 pub returns : goal.returns

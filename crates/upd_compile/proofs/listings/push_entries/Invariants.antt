@@ -1,5 +1,4 @@
-use Rattle.std.proofs.Common.{◌≡◌, ◌++◌, drop}
-use Rattle.std.specs.List.{flat_map}
+use Rattle.upd_compile.proofs.Common.{◌≡◌, ◌++◌, drop, flat_map}
 use Rattle.upd_compile.specs.Listings.{entry_line}
 use Rattle.upd_compile.proofs.listings.push_entries.Given as goal
 

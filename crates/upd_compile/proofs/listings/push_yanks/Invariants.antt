@@ -1,5 +1,4 @@
-use Rattle.std.proofs.Common.{◌≡◌, ◌++◌, drop}
-use Rattle.std.specs.List.{flat_map}
+use Rattle.upd_compile.proofs.Common.{◌≡◌, ◌++◌, drop, flat_map}
 use Rattle.upd_compile.specs.Listings.{yank_lines}
 use Rattle.upd_compile.proofs.listings.push_yanks.Given as goal
 

@@ -1,6 +1,4 @@
-use Rattle.std.proofs.lemmas.Grind.{common_steps}
-use Rattle.std.proofs.Common.{arith, rules, ◌≡◌, sym, add-one, true, false, get_or, take}
-use Rattle.upd_compile.specs.Reach.{is_flagged}
+use Rattle.upd_compile.proofs.Common.{common_steps, arith, rules, ◌≡◌, sym, add-one, true, false, get_or, take, is_flagged}
 use Rattle.upd_compile.proofs.ReachLemmas.{is_in-push, is_flagged-more, or-false}
 use Rattle.upd_compile.proofs.reach.flagged_positions.Goals as goal
 use Rattle.upd_compile.proofs.reach.flagged_positions.Goals.{then-is_flagged+in_ok-push, else-is_flagged}

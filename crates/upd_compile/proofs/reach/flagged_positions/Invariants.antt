@@ -1,5 +1,4 @@
-use Rattle.std.proofs.Common.{◌≡◌, ℕ, take}
-use Rattle.upd_compile.specs.Reach.{is_in, is_flagged}
+use Rattle.upd_compile.proofs.Common.{◌≡◌, ℕ, take, is_in, is_flagged}
 use Rattle.upd_compile.proofs.reach.flagged_positions.Given as goal
 
 abbrev pub invariant-loop-position : goal.invariant-loop-position

@@ -1,6 +1,4 @@
-use Rattle.std.proofs.Common.{◌≡◌, None, Some, map, slice_get, ◌∙◌, refl, arith}
-use Rattle.std.proofs.lemmas.Grind.{common_steps}
-use Rattle.std.proofs.lemmas.Option.{gets, slice_get-map}
+use Rattle.upd_compile.proofs.Common.{◌≡◌, None, Some, map, slice_get, ◌∙◌, refl, arith, common_steps, gets, slice_get-map}
 use Rattle.upd_compile.proofs.ReachingLemmas.{reaching-more, reaching-without}
 use Rattle.upd_compile.proofs.reach.reached_positions.Goals as goal
 

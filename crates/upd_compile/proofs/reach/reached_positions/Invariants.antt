@@ -1,4 +1,5 @@
-use Rattle.std.proofs.Common.{◌+◌, not, map, count_by, vec_len}
+use Rattle.upd_compile.proofs.Common.{◌+◌, not, map, count_by}
+use Rattle.std.proofs.Common.{vec_len}
 use Rattle.upd_compile.proofs.ReachingLemmas.{IsReaching}
 use Rattle.upd_compile.proofs.reach.reached_positions.Given as goal
 

@@ -1,5 +1,4 @@
-use Rattle.std.proofs.Common.{rules, ◌≡◌, ◌<◌, ◌≤◌, inl, inr, true, false, length}
-use Rattle.upd_compile.specs.Reach.{is_flagged}
+use Rattle.upd_compile.proofs.Common.{rules, ◌≡◌, ◌<◌, ◌≤◌, inl, inr, true, false, length, is_flagged}
 use Rattle.upd_compile.proofs.ReachLemmas.{VisitsMore-one, VisitsMore-none, is_flagged-at}
 use Rattle.upd_compile.proofs.reach.visit.Goals as goal
 use Rattle.upd_compile.proofs.reach.visit.Goals.{else-position-len-via-then-position-len+else-not-index, else-position-len-via-else-position-len}

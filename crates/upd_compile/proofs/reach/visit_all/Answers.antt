@@ -1,6 +1,4 @@
-use Rattle.std.proofs.lemmas.Grind.{common_steps}
-use Rattle.std.proofs.Common.{arith, take, slice_index}
-use Rattle.std.proofs.lemmas.List.{take_more}
+use Rattle.upd_compile.proofs.Common.{common_steps, arith, take, slice_index, take_more}
 use Rattle.upd_compile.proofs.ReachLemmas.{VisitsMore-then}
 use Rattle.upd_compile.proofs.reach.visit_all.Goals as goal
 

@@ -1,5 +1,4 @@
-use Rattle.std.proofs.Common.{take}
-use Rattle.upd_compile.specs.Reach.{VisitsMore, is_in}
+use Rattle.upd_compile.proofs.Common.{take, VisitsMore, is_in}
 use Rattle.upd_compile.proofs.reach.visit_all.Given as goal
 
 abbrev pub invariant-loop-position : goal.invariant-loop-position

@@ -1,5 +1,4 @@
-use Rattle.std.proofs.Common.{◌≡◌, ◌++◌, drop}
-use Rattle.std.specs.List.{flat_map}
+use Rattle.upd_compile.proofs.Common.{◌≡◌, ◌++◌, drop, flat_map}
 use Rattle.upd_compile.proofs.text_parts.push_parts.Given as goal
 
 abbrev pub invariant-loop-part : goal.invariant-loop-part

@@ -1,11 +1,6 @@
-use Rattle.std.proofs.Common.{rules, [], ◌≡◌, ◌==◌, ◌&&◌, true, false, Ok, Some, None, Result, sym, ◌∙◌, ◌<◌, ap, subst, arith, length, get_or}
-use Rattle.std.proofs.lemmas.Grind.{common_steps}
-use Rattle.std.specs.Option.{option_copied}
-use Rattle.upd_text.specs.declared.fault.FaultKind.{FaultKind}
-use Rattle.upd_text.specs.Lines.{is_call, called}
-use Rattle.upd_text.specs.Outcome.{Does}
-use Rattle.upd_compile.specs.Progress.{ProgressView, after_event, after_events}
-use Rattle.upd_compile.specs.Walk.{Follow, card_events, common_named}
+use Rattle.upd_compile.proofs.Common.{rules, [], ◌≡◌, ◌==◌, ◌&&◌, true, false, Ok, Some, None, Result, sym, ◌∙◌, ◌<◌, ap, subst, arith, length, get_or}
+use Rattle.upd_compile.proofs.Common.{common_steps, option_copied, FaultKind, is_call, called, Does, ProgressView, after_event, after_events, Follow}
+use Rattle.upd_compile.proofs.Common.{card_events, common_named}
 use Rattle.upd_compile.proofs.WalkLemmas.{events-followed, events-text, events-unknown, walk-at_card, walk-at_first}
 use Rattle.upd_compile.proofs.walk.+walk.Goals as goal
 use Rattle.upd_compile.proofs.walk.+walk.Goals.{walk-then-not-is_first+in_ok-meet, walk-else-not-is_first}

@@ -1,6 +1,5 @@
-use Rattle.std.proofs.Common.{◌≡◌, ◌+◌, ◌*◌, drop}
-use Rattle.upd_compile.specs.Progress.{after_events}
-use Rattle.upd_compile.specs.Walk.{walk}
+use Rattle.upd_compile.proofs.Common.{◌≡◌, ◌+◌, drop, after_events, walk}
+use Rattle.std.proofs.Common.{◌*◌}
 use Rattle.upd_compile.proofs.walk.+walk.Given as goal
 
 abbrev pub decreases-walk : goal.decreases-walk

@@ -1,8 +1,4 @@
-use Rattle.std.proofs.Common.{rules, ◌≡◌, ◌∙◌, Ok, Result, sym, subst}
-use Rattle.upd_text.specs.declared.fault.FaultKind.{FaultKind}
-use Rattle.upd_text.specs.Outcome.{Does}
-use Rattle.upd_compile.specs.Progress.{ProgressView, after_events}
-use Rattle.upd_compile.specs.Walk.{walk}
+use Rattle.upd_compile.proofs.Common.{rules, ◌≡◌, ◌∙◌, Ok, Result, sym, subst, FaultKind, Does, ProgressView, after_events, walk}
 use Rattle.upd_compile.proofs.WalkLemmas.{walks-at_deck}
 use Rattle.upd_compile.proofs.walk.walk_all.Goals as goal
 

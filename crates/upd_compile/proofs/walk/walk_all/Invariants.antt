@@ -1,7 +1,4 @@
-use Rattle.std.proofs.Common.{◌≡◌, map, drop}
-use Rattle.std.specs.List.{flat_map}
-use Rattle.upd_compile.specs.Progress.{after_events}
-use Rattle.upd_compile.specs.Walk.{walk}
+use Rattle.upd_compile.proofs.Common.{◌≡◌, map, drop, flat_map, after_events, walk}
 use Rattle.upd_compile.proofs.walk.walk_all.Given as goal
 
 abbrev pub invariant-loop-deck : goal.invariant-loop-deck

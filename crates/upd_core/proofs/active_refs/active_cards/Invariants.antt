@@ -1,7 +1,5 @@
-use Rattle.std.proofs.Common.{◌≡◌, map, take}
-use Rattle.std.specs.List.{filter}
+use Rattle.upd_core.proofs.Common.{◌≡◌, map, take, filter, is_active}
 use Rattle.upd_core.specs.Actives.{without_past}
-use Rattle.upd_core.specs.Status.{is_active}
 use Rattle.upd_core.proofs.active_refs.active_cards.Given as goal
 
 abbrev pub invariant-loop-card : goal.invariant-loop-card

@@ -1,4 +1,4 @@
-use Rattle.std.proofs.Common.{◌≡◌, map, take}
+use Rattle.upd_core.proofs.Common.{◌≡◌, map, take}
 use Rattle.upd_core.specs.Actives.{active_deck}
 use Rattle.upd_core.proofs.active_refs.active_decks.Given as goal
 

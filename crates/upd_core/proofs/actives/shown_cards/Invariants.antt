@@ -1,5 +1,4 @@
-use Rattle.std.proofs.Common.{◌≡◌, map, take}
-use Rattle.upd_core.specs.ActiveTexts.{card_in_texts}
+use Rattle.upd_core.proofs.Common.{◌≡◌, map, take, card_in_texts}
 use Rattle.upd_core.proofs.actives.shown_cards.Given as goal
 
 abbrev pub invariant-loop-card : goal.invariant-loop-card

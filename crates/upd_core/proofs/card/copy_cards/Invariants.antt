@@ -1,4 +1,4 @@
-use Rattle.std.proofs.Common.{◌≡◌, take}
+use Rattle.upd_core.proofs.Common.{◌≡◌, take}
 use Rattle.upd_core.proofs.card.copy_cards.Given as goal
 
 abbrev pub invariant-loop-card : goal.invariant-loop-card

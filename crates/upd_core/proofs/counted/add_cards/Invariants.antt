@@ -1,5 +1,4 @@
-use Rattle.std.proofs.Common.{◌≡◌, ◌++◌, map, drop}
-use Rattle.upd_core.specs.Counted.{counted_card}
+use Rattle.upd_core.proofs.Common.{◌≡◌, ◌++◌, map, drop, counted_card}
 use Rattle.upd_core.proofs.counted.add_cards.Given as goal
 
 abbrev pub invariant-loop-card : goal.invariant-loop-card

@@ -1,8 +1,6 @@
-use Rattle.std.proofs.Common.{◌≡◌, ◌++◌, ◌∙◌, map, List}
+use Rattle.upd_core.proofs.Common.{◌≡◌, ◌++◌, ◌∙◌, map, List, the_view, counted_card, DeckView}
 use Rattle.upd_core.proofs.FlatLemmas.{flat_more}
-use Rattle.upd_core.specs.contracts.deck.Deck.{the_view}
-use Rattle.upd_core.specs.Counted.{CountedCardView, counted_card}
-use Rattle.upd_core.specs.Library.{DeckView}
+use Rattle.upd_core.specs.Counted.{CountedCardView}
 use Rattle.upd_core.proofs.counted.add_cards_of.Goals as goal
 
 pub loop-deck-preserved : goal.loop-deck-preserved

@@ -1,6 +1,4 @@
-use Rattle.std.proofs.Common.{◌≡◌, ◌++◌, map, drop}
-use Rattle.std.specs.List.{flat_map}
-use Rattle.upd_core.specs.Counted.{counted_card}
+use Rattle.upd_core.proofs.Common.{◌≡◌, ◌++◌, map, drop, flat_map, counted_card}
 use Rattle.upd_core.proofs.counted.add_cards_of.Given as goal
 
 abbrev pub invariant-loop-deck : goal.invariant-loop-deck

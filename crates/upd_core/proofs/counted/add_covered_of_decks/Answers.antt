@@ -1,10 +1,5 @@
-use Rattle.std.proofs.Common.{◌≡◌, ◌++◌, ◌∙◌, map, List}
-use Rattle.std.specs.List.{filter}
+use Rattle.upd_core.proofs.Common.{◌≡◌, ◌++◌, ◌∙◌, map, List, filter, the_view, DeckView, ref_of, covers, CardRef}
 use Rattle.upd_core.proofs.FlatLemmas.{flat_more}
-use Rattle.upd_core.specs.contracts.deck.Deck.{the_view}
-use Rattle.upd_core.specs.Library.{DeckView, ref_of}
-use Rattle.upd_core.specs.Reach.{covers}
-use Rattle.upd_text.specs.declared.card_ref.CardRef.{CardRef}
 use Rattle.upd_core.proofs.counted.add_covered_of_decks.Goals as goal
 
 pub loop-deck-preserved : goal.loop-deck-preserved

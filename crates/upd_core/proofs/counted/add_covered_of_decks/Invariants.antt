@@ -1,7 +1,4 @@
-use Rattle.std.proofs.Common.{◌≡◌, ◌++◌, map, drop}
-use Rattle.std.specs.List.{filter, flat_map}
-use Rattle.upd_core.specs.Library.{ref_of}
-use Rattle.upd_core.specs.Reach.{covers}
+use Rattle.upd_core.proofs.Common.{◌≡◌, ◌++◌, map, drop, filter, flat_map, ref_of, covers}
 use Rattle.upd_core.proofs.counted.add_covered_of_decks.Given as goal
 
 abbrev pub invariant-loop-deck : goal.invariant-loop-deck

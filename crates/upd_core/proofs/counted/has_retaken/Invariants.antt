@@ -1,7 +1,5 @@
-use Rattle.std.proofs.Common.{◌≡◌, drop}
-use Rattle.std.specs.List.{list_any}
+use Rattle.upd_core.proofs.Common.{◌≡◌, drop, list_any, count_in}
 use Rattle.upd_core.specs.Reach.{is_retaken}
-use Rattle.upd_core.specs.TargetCounts.{count_in}
 use Rattle.upd_core.proofs.counted.has_retaken.Given as goal
 
 abbrev pub invariant-loop-entry : goal.invariant-loop-entry

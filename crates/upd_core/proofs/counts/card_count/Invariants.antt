@@ -1,5 +1,4 @@
-use Rattle.std.proofs.Common.{◌≡◌, length, take, sum_by}
-use Rattle.upd_core.specs.Counts.{capped}
+use Rattle.upd_core.proofs.Common.{◌≡◌, length, take, sum_by, capped}
 use Rattle.upd_core.proofs.counts.card_count.Given as goal
 
 abbrev pub invariant-loop-deck : goal.invariant-loop-deck

@@ -1,5 +1,4 @@
-use Rattle.std.proofs.Common.{◌≡◌, length, take, sum_by}
-use Rattle.upd_core.specs.Counts.{capped}
+use Rattle.upd_core.proofs.Common.{◌≡◌, length, take, sum_by, capped}
 use Rattle.upd_core.proofs.counts.target_count.Given as goal
 
 abbrev pub invariant-loop-card : goal.invariant-loop-card

@@ -1,6 +1,4 @@
-use Rattle.std.proofs.Common.{◌≡◌, drop}
-use Rattle.upd_core.specs.First.{index_from}
-use Rattle.upd_core.specs.Library.{is_card}
+use Rattle.upd_core.proofs.Common.{◌≡◌, drop, index_from, is_card}
 use Rattle.upd_core.proofs.deck.card_index.Given as goal
 
 abbrev pub invariant-loop-i : goal.invariant-loop-i

@@ -1,4 +1,4 @@
-use Rattle.std.proofs.Common.{◌≡◌, take}
+use Rattle.upd_core.proofs.Common.{◌≡◌, take}
 use Rattle.upd_core.proofs.deck.copy_decks.Given as goal
 
 abbrev pub invariant-loop-deck : goal.invariant-loop-deck

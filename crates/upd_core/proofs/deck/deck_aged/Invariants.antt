@@ -1,6 +1,4 @@
-use Rattle.std.proofs.Common.{◌≡◌, drop}
-use Rattle.std.specs.List.{find}
-use Rattle.upd_core.specs.Library.{is_deck}
+use Rattle.upd_core.proofs.Common.{◌≡◌, drop, find, is_deck}
 use Rattle.upd_core.proofs.deck.deck_aged.Given as goal
 
 abbrev pub invariant-loop-deck : goal.invariant-loop-deck

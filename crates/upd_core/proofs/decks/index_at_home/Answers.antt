@@ -1,6 +1,4 @@
-use Rattle.std.proofs.Common.{◌≡◌, false, arith, sym}
-use Rattle.std.proofs.lemmas.Bool.Decides.{nat_tests}
-use Rattle.std.specs.Prelude.{◌==◌}
+use Rattle.upd_core.proofs.Common.{◌≡◌, false, arith, sym, nat_tests, ◌==◌}
 use Rattle.upd_core.proofs.HomeLemmas.{no_card_away}
 use Rattle.upd_core.proofs.decks.index_at_home.Goals as goal
 

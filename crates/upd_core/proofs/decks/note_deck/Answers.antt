@@ -1,8 +1,6 @@
-use Rattle.std.proofs.Common.{◌≡◌, ◌<◌, ◌≤◌, true, take, get_or, length, ap, ◌∙◌, subst, All}
+use Rattle.upd_core.proofs.Common.{◌≡◌, ◌<◌, ◌≤◌, true, take, get_or, length, ap, ◌∙◌, subst, All, StayNoted, is_home, CardView}
 use Rattle.std.proofs.lemmas.List.Elements.{All-more}
 use Rattle.std.proofs.lemmas.List.{take_all}
-use Rattle.upd_core.specs.Homes.{StayNoted, is_home}
-use Rattle.upd_core.specs.Library.{CardView}
 use Rattle.upd_core.proofs.HomeLemmas.{deck_kept}
 use Rattle.upd_core.proofs.decks.note_deck.Goals as goal
 

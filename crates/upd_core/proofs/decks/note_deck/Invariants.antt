@@ -1,5 +1,4 @@
-use Rattle.std.proofs.Common.{◌≡◌, true, take, All}
-use Rattle.upd_core.specs.Homes.{StayNoted, is_home}
+use Rattle.upd_core.proofs.Common.{◌≡◌, true, take, All, StayNoted, is_home}
 use Rattle.upd_core.proofs.decks.note_deck.Given as goal
 
 abbrev pub invariant-loop-card : goal.invariant-loop-card

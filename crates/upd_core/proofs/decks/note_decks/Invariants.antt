@@ -1,5 +1,4 @@
-use Rattle.std.proofs.Common.{take}
-use Rattle.upd_core.specs.Homes.{AreHome}
+use Rattle.upd_core.proofs.Common.{take, AreHome}
 use Rattle.upd_core.proofs.decks.note_decks.Given as goal
 
 abbrev pub invariant-loop-deck : goal.invariant-loop-deck

@@ -1,5 +1,4 @@
-use Rattle.std.proofs.Common.{◌≡◌, drop}
-use Rattle.upd_core.specs.Library.{place_in}
+use Rattle.upd_core.proofs.Common.{◌≡◌, drop, place_in}
 use Rattle.upd_core.proofs.decks.place_at_home.Given as goal
 
 abbrev pub invariant-loop-deck : goal.invariant-loop-deck

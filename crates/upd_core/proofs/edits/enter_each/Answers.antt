@@ -1,5 +1,4 @@
-use Rattle.std.proofs.Common.{refl}
-use Rattle.upd_core.specs.Edits.{entered}
+use Rattle.upd_core.proofs.Common.{refl, entered}
 use Rattle.upd_core.proofs.EnterLemmas.{all_left}
 use Rattle.upd_core.proofs.InPlaceLemmas.{map_over_more}
 use Rattle.upd_core.proofs.edits.enter_each.Goals as goal

@@ -1,5 +1,4 @@
-use Rattle.std.proofs.Common.{◌≡◌, map, take, drop, ◌++◌}
-use Rattle.upd_core.specs.Edits.{entered}
+use Rattle.upd_core.proofs.Common.{◌≡◌, map, take, drop, ◌++◌, entered}
 use Rattle.upd_core.proofs.edits.enter_each.Given as goal
 
 abbrev pub invariant-loop-i : goal.invariant-loop-i

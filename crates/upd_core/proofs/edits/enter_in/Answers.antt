@@ -1,8 +1,4 @@
-use Rattle.std.proofs.Common.{ℕ, ◌∙◌, ap, sym}
-use Rattle.std.specs.Option.{option_map_or}
-use Rattle.upd_core.specs.Library.{DeckView, is_deck}
-use Rattle.upd_core.specs.EditParts.{entered_count}
-use Rattle.upd_core.specs.Edits.{entered_range}
+use Rattle.upd_core.proofs.Common.{ℕ, ◌∙◌, ap, sym, option_map_or, DeckView, is_deck, entered_count, entered_range}
 use Rattle.upd_core.proofs.FirstLemmas.{at_first_found, at_first_none, find_found, find_missed}
 use Rattle.upd_core.proofs.edits.enter_in.Goals as goal
 

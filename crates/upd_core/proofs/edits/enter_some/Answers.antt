@@ -1,8 +1,6 @@
-use Rattle.std.proofs.lemmas.Grind.{common_steps}
-use Rattle.std.proofs.Common.{◌≡◌, ◌+◌, ◌-◌, ◌∙◌, map, take, drop, arith, ap, sym, append_assoc}
+use Rattle.upd_core.proofs.Common.{common_steps, ◌≡◌, ◌+◌, ◌-◌, ◌∙◌, map, take, drop, arith, ap, sym, append_assoc, entered}
 use Rattle.std.proofs.lemmas.List.{drop-drop}
 use Rattle.std.proofs.lemmas.Slice.{between_is}
-use Rattle.upd_core.specs.Edits.{entered}
 use Rattle.upd_core.proofs.edits.enter_some.Goals as goal
 
 pub returns-in_ok-enter_each-clause-ok : goal.returns-in_ok-enter_each-clause-ok

@@ -1,5 +1,4 @@
-use Rattle.std.proofs.Common.{◌∙◌, ◌-◌, length, insert, is_some, ap, sym}
-use Rattle.upd_core.specs.Library.{DeckView, is_deck}
+use Rattle.upd_core.proofs.Common.{◌∙◌, ◌-◌, length, insert, is_some, ap, sym, DeckView, is_deck}
 use Rattle.upd_core.proofs.FirstLemmas.{at_first_found, at_first_none, find_found, find_missed}
 use Rattle.upd_core.proofs.edits.insert_in.Goals as goal
 

@@ -1,4 +1,4 @@
-use Rattle.upd_core.specs.EditParts.{without_last}
+use Rattle.upd_core.proofs.Common.{without_last}
 use Rattle.upd_core.proofs.InPlaceLemmas.{map_over_more}
 use Rattle.upd_core.proofs.edits.leave_each.Goals as goal
 

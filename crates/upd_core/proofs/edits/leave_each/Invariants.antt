@@ -1,5 +1,4 @@
-use Rattle.std.proofs.Common.{◌≡◌, map, take, drop, ◌++◌}
-use Rattle.upd_core.specs.EditParts.{without_last}
+use Rattle.upd_core.proofs.Common.{◌≡◌, map, take, drop, ◌++◌, without_last}
 use Rattle.upd_core.proofs.edits.leave_each.Given as goal
 
 abbrev pub invariant-loop-card : goal.invariant-loop-card

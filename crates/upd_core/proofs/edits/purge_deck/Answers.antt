@@ -1,6 +1,5 @@
-use Rattle.std.proofs.Common.{◌∙◌, ◌==◌}
-use Rattle.upd_core.specs.Edits.{without_idents}
-use Rattle.upd_core.specs.Library.{DeckView, is_deck}
+use Rattle.upd_core.proofs.Common.{◌∙◌, without_idents, DeckView, is_deck}
+use Rattle.std.proofs.Common.{◌==◌}
 use Rattle.upd_core.proofs.FirstLemmas.{at_first_found, at_first_none}
 use Rattle.upd_core.proofs.edits.purge_deck.Goals as goal
 

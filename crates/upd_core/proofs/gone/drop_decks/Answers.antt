@@ -1,7 +1,4 @@
-use Rattle.std.proofs.Common.{Bool, not, rules}
-use Rattle.std.proofs.lemmas.Fn.{filter_same}
-use Rattle.upd_core.specs.Library.{DeckView}
-use Rattle.upd_core.specs.Gone.{is_gone}
+use Rattle.upd_core.proofs.Common.{Bool, not, rules, filter_same, DeckView, is_gone}
 use Rattle.upd_core.proofs.gone.drop_decks.Goals as goal
 
 pub returns : goal.returns

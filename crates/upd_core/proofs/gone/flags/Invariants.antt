@@ -1,5 +1,4 @@
-use Rattle.std.proofs.Common.{◌≡◌, ℕ, length, take}
-use Rattle.upd_core.specs.Edits.{is_among}
+use Rattle.upd_core.proofs.Common.{◌≡◌, ℕ, length, take, is_among}
 use Rattle.upd_core.specs.Gone.{is_listed}
 use Rattle.upd_core.proofs.gone.flags.Given as goal
 

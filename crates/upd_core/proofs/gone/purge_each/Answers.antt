@@ -1,5 +1,4 @@
-use Rattle.upd_core.specs.Edits.{deck_without}
-use Rattle.upd_core.specs.Gone.{is_gone}
+use Rattle.upd_core.proofs.Common.{deck_without, is_gone}
 use Rattle.upd_core.proofs.InPlaceLemmas.{map_over_more}
 use Rattle.upd_core.proofs.gone.purge_each.Goals as goal
 

@@ -1,6 +1,4 @@
-use Rattle.std.proofs.Common.{◌≡◌, map, take, drop, ◌++◌}
-use Rattle.upd_core.specs.Edits.{deck_without}
-use Rattle.upd_core.specs.Gone.{is_gone}
+use Rattle.upd_core.proofs.Common.{◌≡◌, map, take, drop, ◌++◌, deck_without, is_gone}
 use Rattle.upd_core.proofs.gone.purge_each.Given as goal
 
 abbrev pub invariant-loop-deck : goal.invariant-loop-deck

@@ -1,5 +1,4 @@
-use Rattle.upd_core.specs.Edits.{without_entries}
-use Rattle.upd_core.specs.Gone.{is_gone}
+use Rattle.upd_core.proofs.Common.{without_entries, is_gone}
 use Rattle.upd_core.proofs.InPlaceLemmas.{map_over_more}
 use Rattle.upd_core.proofs.gone.purge_histories.Goals as goal
 

@@ -1,6 +1,4 @@
-use Rattle.std.proofs.Common.{◌≡◌, map, take, drop, ◌++◌}
-use Rattle.upd_core.specs.Edits.{without_entries}
-use Rattle.upd_core.specs.Gone.{is_gone}
+use Rattle.upd_core.proofs.Common.{◌≡◌, map, take, drop, ◌++◌, without_entries, is_gone}
 use Rattle.upd_core.proofs.gone.purge_histories.Given as goal
 
 abbrev pub invariant-loop-card : goal.invariant-loop-card

@@ -1,7 +1,4 @@
-use Rattle.std.proofs.Common.{Bool, not, rules}
-use Rattle.std.proofs.lemmas.Fn.{filter_same}
-use Rattle.upd_core.specs.declared.card.Entry.{Entry}
-use Rattle.upd_core.specs.Gone.{is_gone}
+use Rattle.upd_core.proofs.Common.{Bool, not, rules, filter_same, Entry, is_gone}
 use Rattle.upd_core.proofs.gone.purge_history.Goals as goal
 
 pub returns : goal.returns

@@ -1,6 +1,4 @@
-use Rattle.std.proofs.Common.{refl}
-use Rattle.upd_core.specs.Edits.{unheld}
-use Rattle.upd_core.specs.Gone.{is_gone}
+use Rattle.upd_core.proofs.Common.{refl, unheld, is_gone}
 use Rattle.upd_core.proofs.InPlaceLemmas.{map_over_more}
 use Rattle.upd_core.proofs.gone.unhold.Goals as goal
 

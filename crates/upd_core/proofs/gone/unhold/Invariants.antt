@@ -1,6 +1,4 @@
-use Rattle.std.proofs.Common.{◌≡◌, map, take, drop, ◌++◌}
-use Rattle.upd_core.specs.Edits.{unheld}
-use Rattle.upd_core.specs.Gone.{is_gone}
+use Rattle.upd_core.proofs.Common.{◌≡◌, map, take, drop, ◌++◌, unheld, is_gone}
 use Rattle.upd_core.proofs.gone.unhold.Given as goal
 
 abbrev pub invariant-loop-ident : goal.invariant-loop-ident

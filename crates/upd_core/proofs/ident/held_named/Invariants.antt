@@ -1,5 +1,4 @@
-use Rattle.std.proofs.Common.{◌≡◌, drop}
-use Rattle.upd_core.specs.Library.{held_named}
+use Rattle.upd_core.proofs.Common.{◌≡◌, drop, held_named}
 use Rattle.upd_core.proofs.ident.held_named.Given as goal
 
 abbrev pub invariant-loop-ident : goal.invariant-loop-ident

@@ -1,5 +1,4 @@
-use Rattle.std.proofs.Common.{arith}
-use Rattle.std.proofs.lemmas.Grind.{elements}
+use Rattle.upd_core.proofs.Common.{arith, elements}
 use Rattle.upd_core.proofs.ident.name_at.Goals as goal
 
 pub returns-in_err-ident : goal.returns-in_err-ident

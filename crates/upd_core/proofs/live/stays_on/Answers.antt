@@ -1,7 +1,5 @@
-use Rattle.std.proofs.Common.{false, arith}
-use Rattle.std.proofs.lemmas.Grind.{common_steps}
+use Rattle.upd_core.proofs.Common.{false, arith, common_steps, is_taken}
 use Rattle.upd_core.proofs.StatusLaws.{stays_on-take}
-use Rattle.upd_core.specs.Status.{is_taken}
 use Rattle.upd_core.proofs.live.stays_on.Goals as goal
 
 pub returns-then-not-is_taken : goal.returns-then-not-is_taken

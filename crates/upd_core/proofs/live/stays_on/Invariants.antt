@@ -1,5 +1,4 @@
-use Rattle.std.proofs.Common.{◌≡◌, take}
-use Rattle.upd_core.specs.Status.{stays_on, is_taken}
+use Rattle.upd_core.proofs.Common.{◌≡◌, take, stays_on, is_taken}
 use Rattle.upd_core.proofs.live.stays_on.Given as goal
 
 abbrev pub invariant-loop-i : goal.invariant-loop-i

@@ -1,5 +1,4 @@
-use Rattle.std.proofs.Common.{ℕ, ◌≡◌, ◌+◌, ◌-◌, ◌<◌, length, ◌∙◌, rules, arith}
-use Rattle.std.proofs.lemmas.Grind.{common_steps}
+use Rattle.upd_core.proofs.Common.{ℕ, ◌≡◌, ◌+◌, ◌-◌, ◌<◌, length, ◌∙◌, rules, arith, common_steps}
 use Rattle.std.proofs.lemmas.List.{length-set}
 use Rattle.upd_core.proofs.LiveLemmas.{swept-more}
 use Rattle.upd_core.proofs.live.swept.Goals as goal

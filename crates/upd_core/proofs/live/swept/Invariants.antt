@@ -1,5 +1,4 @@
-use Rattle.std.proofs.Common.{◌≡◌, drop, length}
-use Rattle.upd_core.specs.Status.{targets_of, live_cards, liveness}
+use Rattle.upd_core.proofs.Common.{◌≡◌, drop, length, targets_of, live_cards, liveness}
 use Rattle.upd_core.proofs.live.swept.Given as goal
 
 abbrev pub invariant-loop-i : goal.invariant-loop-i

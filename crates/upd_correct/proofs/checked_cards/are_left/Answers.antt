@@ -1,4 +1,4 @@
-use Rattle.std.proofs.Common.{rules, arith, length, ◌≡◌}
+use Rattle.upd_correct.proofs.Common.{rules, arith, length, ◌≡◌}
 use Rattle.upd_correct.proofs.LeftLemmas.{none_left}
 use Rattle.upd_correct.proofs.checked_cards.are_left.Goals as goal
 

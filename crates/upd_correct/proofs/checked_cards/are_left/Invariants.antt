@@ -1,5 +1,4 @@
-use Rattle.std.proofs.Common.{drop}
-use Rattle.upd_correct.specs.Checked.{AreLeft}
+use Rattle.upd_correct.proofs.Common.{drop, AreLeft}
 use Rattle.upd_correct.proofs.checked_cards.are_left.Given as goal
 
 abbrev pub invariant-loop-card : goal.invariant-loop-card

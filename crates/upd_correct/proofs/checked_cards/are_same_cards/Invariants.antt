@@ -1,4 +1,4 @@
-use Rattle.std.proofs.Common.{◌≡◌, take}
+use Rattle.upd_correct.proofs.Common.{◌≡◌, take}
 use Rattle.upd_correct.proofs.checked_cards.are_same_cards.Given as goal
 
 abbrev pub invariant-loop-i : goal.invariant-loop-i

@@ -1,4 +1,4 @@
-use Rattle.std.proofs.lemmas.Slice.Eq.{slice_eq-Decides}
+use Rattle.upd_correct.proofs.Common.{slice_eq-Decides}
 use Rattle.upd_correct.proofs.SameLemmas.{target_Decides}
 use Rattle.upd_correct.proofs.checked_cards.are_same_targets.Goals as goal
 

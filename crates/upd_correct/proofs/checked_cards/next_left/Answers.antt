@@ -1,7 +1,6 @@
-use Rattle.std.proofs.Common.{rules, ◌≡◌, ◌∷◌, List, IsTrue, ◌-◌, length, take, drop, sym, subst, arith}
-use Rattle.upd_core.specs.Library.{CardView}
-use Rattle.upd_core.specs.Status.{is_active}
-use Rattle.upd_correct.specs.Checked.{AreLeft, IsLeft, Old, New}
+use Rattle.upd_correct.proofs.Common.{rules, ◌≡◌, ◌∷◌, List, ◌-◌, length, take, drop, sym, subst, arith, CardView, is_active, AreLeft, Old, New}
+use Rattle.std.proofs.Common.{IsTrue}
+use Rattle.upd_correct.specs.Checked.{IsLeft}
 use Rattle.upd_correct.proofs.LeftLemmas.{split_first}
 use Rattle.upd_correct.proofs.checked_cards.next_left.Goals as goal
 

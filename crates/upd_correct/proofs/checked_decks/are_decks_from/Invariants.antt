@@ -1,5 +1,4 @@
-use Rattle.std.proofs.Common.{◌+◌, drop}
-use Rattle.upd_correct.specs.Checked.{AreDecksFrom}
+use Rattle.upd_correct.proofs.Common.{◌+◌, drop, AreDecksFrom}
 use Rattle.upd_correct.proofs.checked_decks.are_decks_from.Given as goal
 
 abbrev pub invariant-loop-i : goal.invariant-loop-i

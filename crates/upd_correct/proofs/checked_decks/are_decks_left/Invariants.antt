@@ -1,6 +1,4 @@
-use Rattle.std.proofs.Common.{drop}
-use Rattle.std.specs.List.{AllZip}
-use Rattle.upd_correct.specs.Checked.{IsDeckLeft}
+use Rattle.upd_correct.proofs.Common.{drop, AllZip, IsDeckLeft}
 use Rattle.upd_correct.proofs.checked_decks.are_decks_left.Given as goal
 
 abbrev pub invariant-loop-i : goal.invariant-loop-i

@@ -1,4 +1,4 @@
-use Rattle.std.proofs.Common.{◌≡◌, ◌+◌, map, drop}
+use Rattle.upd_correct.proofs.Common.{◌≡◌, ◌+◌, map, drop}
 use Rattle.upd_correct.specs.Checked.{deck_idents}
 use Rattle.upd_correct.proofs.checked_idents.are_deck_idents.Given as goal
 

@@ -1,4 +1,4 @@
-use Rattle.std.proofs.Common.{◌≡◌, take}
+use Rattle.upd_correct.proofs.Common.{◌≡◌, take}
 use Rattle.upd_correct.proofs.checked_idents.are_same_idents.Given as goal
 
 abbrev pub invariant-loop-i : goal.invariant-loop-i

@@ -1,7 +1,4 @@
-use Rattle.std.proofs.Common.{◌≡◌, drop}
-use Rattle.std.specs.List.{AllByRecursion}
-use Rattle.upd_core.specs.Status.{live_targets}
-use Rattle.upd_correct.specs.Checked.{HasTexts}
+use Rattle.upd_correct.proofs.Common.{◌≡◌, drop, AllByRecursion, live_targets, HasTexts}
 use Rattle.upd_correct.proofs.checked_library.have_texts.Given as goal
 
 abbrev pub invariant-loop-deck : goal.invariant-loop-deck

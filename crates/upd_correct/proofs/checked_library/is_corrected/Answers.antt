@@ -1,12 +1,6 @@
-use Rattle.std.specs.Borrow.{Bor}
-use Rattle.std.proofs.Common.{rules, ◌≡◌, ℕ, List, map, length, take, drop, sym, ap, ◌∙◌, subst}
-use Rattle.std.proofs.lemmas.List.{length-map}
-use Rattle.std.specs.List.{AllZip}
-use Rattle.upd_core.specs.Edits.{next_age}
-use Rattle.upd_core.specs.Status.{LiveView, live_targets}
-use Rattle.upd_correct.specs.Corrections.{NewDeck}
-use Rattle.upd_correct.specs.Plans.{new_decks}
-use Rattle.upd_correct.specs.Checked.{Brings, IsDeckLeft, held_serials}
+use Rattle.upd_correct.proofs.Common.{Bor, rules, ◌≡◌, ℕ, List, map, length, take, drop, sym, ap, ◌∙◌, subst, length-map, AllZip, next_age, LiveView}
+use Rattle.upd_correct.proofs.Common.{live_targets, NewDeck, new_decks, IsDeckLeft, held_serials}
+use Rattle.upd_correct.specs.Checked.{Brings}
 use Rattle.upd_correct.proofs.CheckedLemmas.{live_same}
 use Rattle.upd_correct.proofs.checked_library.is_corrected.Goals as goal
 

@@ -1,6 +1,4 @@
-use Rattle.std.proofs.Common.{drop}
-use Rattle.std.specs.List.{AllByRecursion}
-use Rattle.upd_correct.specs.Checked.{LeadsCards}
+use Rattle.upd_correct.proofs.Common.{drop, AllByRecursion, LeadsCards}
 use Rattle.upd_correct.proofs.checked_library.leave_cards.Given as goal
 
 abbrev pub invariant-loop-deck : goal.invariant-loop-deck

@@ -1,6 +1,4 @@
-use Rattle.std.proofs.Common.{◌≡◌, map, take}
-use Rattle.std.specs.List.{filter}
-use Rattle.upd_core.specs.Status.{is_active}
+use Rattle.upd_correct.proofs.Common.{◌≡◌, map, take, filter, is_active}
 use Rattle.upd_correct.proofs.checked_texts.active_texts.Given as goal
 
 abbrev pub invariant-loop-card : goal.invariant-loop-card

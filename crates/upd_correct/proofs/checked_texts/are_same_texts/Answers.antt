@@ -1,5 +1,4 @@
-use Rattle.std.specs.Borrow.{Bor}
-use Rattle.std.proofs.Common.{ℕ, List, [], get_or, sym, ap, ◌∙◌, arith}
+use Rattle.upd_correct.proofs.Common.{Bor, ℕ, List, [], get_or, sym, ap, ◌∙◌, arith}
 use Rattle.std.proofs.lemmas.List.{get_or-map}
 use Rattle.upd_correct.proofs.checked_texts.are_same_texts.Goals as goal
 

@@ -1,4 +1,4 @@
-use Rattle.std.proofs.Common.{◌≡◌, map, take}
+use Rattle.upd_correct.proofs.Common.{◌≡◌, map, take}
 use Rattle.upd_correct.proofs.checked_texts.are_same_texts.Given as goal
 
 abbrev pub invariant-loop-i : goal.invariant-loop-i

@@ -1,8 +1,4 @@
-use Rattle.std.specs.Borrow.{Bor}
-use Rattle.std.proofs.Common.{ℕ, List, [], map, sym, ap, ◌∙◌, arith}
-use Rattle.std.proofs.lemmas.Bool.Decides.{Decides-eqb}
-use Rattle.std.proofs.lemmas.Slice.Eq.{slice_eq-Decides}
-use Rattle.upd_correct.specs.Corrections.{NewDeck}
+use Rattle.upd_correct.proofs.Common.{Bor, ℕ, List, [], map, sym, ap, ◌∙◌, arith, Decides-eqb, slice_eq-Decides, NewDeck}
 use Rattle.upd_correct.proofs.TextLemmas.{texts_are, texts_split}
 use Rattle.upd_correct.proofs.checked_texts.are_texts_of.Goals as goal
 

@@ -1,10 +1,7 @@
-use Rattle.std.proofs.Common.{◌≡◌, [], Bool, arith, subst, Ok}
-use Rattle.std.specs.Prelude.{IsTrue}
-use Rattle.std.proofs.lemmas.Bool.Decides.{nat_tests}
-use Rattle.upd_core.specs.Library.{LibraryView}
-use Rattle.upd_apply.specs.Applying.{Reached, applied}
+use Rattle.upd_correct.proofs.Common.{◌≡◌, [], Bool, arith, subst, IsTrue, nat_tests, LibraryView, Reached, Corrects, IsChecked}
+use Rattle.std.proofs.Common.{Ok}
+use Rattle.upd_apply.specs.Applying.{applied}
 use Rattle.upd_correct.proofs.ScriptLemmas.{no_items}
-use Rattle.upd_correct.specs.Checked.{Corrects, IsChecked}
 use Rattle.upd_correct.proofs.TextLemmas.{ok_weaker}
 use Rattle.upd_correct.proofs.checking.applied_checked.Goals as goal
 

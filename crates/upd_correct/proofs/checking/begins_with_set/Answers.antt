@@ -1,8 +1,5 @@
-use Rattle.std.proofs.Common.{◌≡◌, ◌++◌, drop, ap, ◌∙◌, Some, inr, arith}
-use Rattle.std.specs.Prelude.{codes}
-use Rattle.std.proofs.lemmas.Bool.Decides.{Decides-eqb}
+use Rattle.upd_correct.proofs.Common.{◌≡◌, ◌++◌, drop, ap, ◌∙◌, Some, inr, arith, codes, Decides-eqb, Bytes}
 use Rattle.std.proofs.lemmas.Slice.Eq.{strip_prefix_is}
-use Rattle.upd_text.specs.Units.{Bytes}
 use Rattle.upd_correct.proofs.TextLemmas.{feed_first}
 use Rattle.upd_correct.proofs.checking.begins_with_set.Goals as goal
 

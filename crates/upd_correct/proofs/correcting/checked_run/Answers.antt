@@ -1,4 +1,4 @@
-use Rattle.std.proofs.Common.{ℕ, List, subst}
+use Rattle.upd_correct.proofs.Common.{ℕ, List, subst}
 use Rattle.upd_text.specs.Outcome.{FailsAt}
 use Rattle.upd_correct.specs.Checked.{result_of}
 use Rattle.upd_correct.proofs.correcting.checked_run.Goals as goal

@@ -1,10 +1,4 @@
-use Rattle.std.proofs.Common.{◌≡◌, [], sym, subst, ◌∙◌, arith}
-use Rattle.std.proofs.lemmas.Bool.Decides.{nat_tests}
-use Rattle.std.specs.List.{AllByRecursion}
-use Rattle.upd_correct.specs.EditedText.{HasDecks}
-use Rattle.upd_correct.specs.Plans.{IsEditedDeck}
-use Rattle.upd_correct.specs.Problems.{HasNoProblem}
-use Rattle.upd_correct.specs.Refusals.{refusals_of}
+use Rattle.upd_correct.proofs.Common.{◌≡◌, [], sym, subst, ◌∙◌, arith, nat_tests, AllByRecursion, HasDecks, IsEditedDeck, HasNoProblem, refusals_of}
 use Rattle.upd_correct.proofs.CauseLemmas.{all_refused}
 use Rattle.upd_correct.proofs.ScriptLemmas.{no_items}
 use Rattle.upd_correct.proofs.correcting.correct.Goals as goal

@@ -1,8 +1,5 @@
-use Rattle.std.specs.Borrow.{Bor}
-use Rattle.std.proofs.Common.{inl, inr, true, map, refl, sym, ap, ◌∙◌, subst}
-use Rattle.upd_correct.specs.Corrections.{NewDeck}
-use Rattle.upd_correct.specs.Plans.{AreCorrectionsFor}
-use Rattle.upd_correct.specs.Runs.{is_unchanged}
+use Rattle.upd_correct.proofs.Common.{Bor, inr, true, map, refl, sym, ap, ◌∙◌, subst, NewDeck, AreCorrectionsFor, is_unchanged}
+use Rattle.std.proofs.Common.{inl}
 use Rattle.upd_correct.proofs.RunLemmas.{nothing_same, run_same}
 use Rattle.upd_correct.proofs.TextLineLemmas.{all_spelled}
 use Rattle.upd_correct.proofs.correcting.made_run.Goals as goal

@@ -1,5 +1,4 @@
-use Rattle.std.proofs.Common.{refl}
-use Rattle.upd_apply.specs.Applying.{Reached}
+use Rattle.upd_correct.proofs.Common.{refl, Reached}
 use Rattle.upd_correct.proofs.edit_parts.apply_run.Goals as goal
 
 pub returns-in-Ok-apply : goal.returns-in-Ok-apply

@@ -1,7 +1,4 @@
-use Rattle.std.proofs.Common.{◌≡◌, [], sym, subst, ◌∙◌, arith}
-use Rattle.std.proofs.lemmas.Bool.Decides.{nat_tests}
-use Rattle.upd_correct.specs.EditedText.{HasDecks}
-use Rattle.upd_correct.specs.Parts.{part_name}
+use Rattle.upd_correct.proofs.Common.{◌≡◌, [], sym, subst, ◌∙◌, arith, nat_tests, HasDecks, part_name}
 use Rattle.upd_correct.proofs.CauseLemmas.{clean_cause, clean_text, on_ok}
 use Rattle.upd_correct.proofs.ScriptLemmas.{no_items}
 use Rattle.upd_correct.proofs.edit_parts.correct_parts.Goals as goal

@@ -1,5 +1,5 @@
-use Rattle.std.proofs.Common.{[], map, sym, subst}
-use Rattle.upd_correct.specs.Parts.{Before, Follows}
+use Rattle.upd_correct.proofs.Common.{[], map, sym, subst, Follows}
+use Rattle.upd_correct.specs.Parts.{Before}
 use Rattle.upd_correct.proofs.edit_parts.parts_at.Goals as goal
 
 pub loop-cut-init : goal.loop-cut-init

@@ -1,5 +1,4 @@
-use Rattle.std.proofs.Common.{map}
-use Rattle.upd_correct.specs.Parts.{Follows}
+use Rattle.upd_correct.proofs.Common.{map, Follows}
 use Rattle.upd_correct.proofs.edit_parts.parts_at.Given as goal
 
 abbrev pub invariant-loop-cut : goal.invariant-loop-cut

@@ -1,5 +1,5 @@
-use Rattle.std.proofs.Common.{map, IfOk}
-use Rattle.upd_correct.specs.EditedText.{HasDecks}
+use Rattle.upd_correct.proofs.Common.{map, HasDecks}
+use Rattle.std.proofs.Common.{IfOk}
 use Rattle.upd_correct.specs.Parts.{CorrectsInParts}
 use Rattle.upd_correct.proofs.edit_parts.parts_for.Given as goal
 

@@ -1,8 +1,6 @@
-use Rattle.std.proofs.Common.{◌≡◌, ◌+◌, ◌++◌, ◌∷◌, [], List, ℕ, Vec, Global, map, length, sym, ap, ◌∙◌, subst, arith}
-use Rattle.std.proofs.lemmas.List.{length-map, map-append}
-use Rattle.upd_core.specs.Library.{LibraryView}
-use Rattle.upd_correct.specs.Correcting.{CorrectsTo}
-use Rattle.upd_correct.specs.Parts.{Follows, IsReached, Next, part_name}
+use Rattle.upd_correct.proofs.Common.{◌≡◌, ◌+◌, ◌++◌, ◌∷◌, [], List, ℕ, Vec, Global, map, length, sym, ap, ◌∙◌, subst, arith, length-map, map-append}
+use Rattle.upd_correct.proofs.Common.{LibraryView, CorrectsTo, Follows, part_name}
+use Rattle.upd_correct.specs.Parts.{IsReached, Next}
 use Rattle.upd_correct.proofs.edit_parts.push_part.Goals as goal
 
 -- the bytes of runs

@@ -1,6 +1,4 @@
-use Rattle.std.specs.Borrow.{Bor}
-use Rattle.std.proofs.Common.{ℕ, ◌+◌, List, [], get_or, sym, ap, subst}
-use Rattle.upd_correct.specs.ReadDecks.{AreReadFrom}
+use Rattle.upd_correct.proofs.Common.{Bor, ℕ, ◌+◌, List, [], get_or, sym, ap, subst, AreReadFrom}
 use Rattle.upd_correct.proofs.ListLemmas.{mapped_more, taken_count}
 use Rattle.upd_correct.proofs.edited_deck.read_decks.Goals as goal
 

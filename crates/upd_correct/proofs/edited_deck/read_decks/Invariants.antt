@@ -1,5 +1,4 @@
-use Rattle.std.proofs.Common.{map, take}
-use Rattle.upd_correct.specs.ReadDecks.{AreReadFrom}
+use Rattle.upd_correct.proofs.Common.{map, take, AreReadFrom}
 use Rattle.upd_correct.proofs.edited_deck.read_decks.Given as goal
 
 abbrev pub invariant-loop-i : goal.invariant-loop-i

@@ -1,8 +1,5 @@
-use Rattle.std.proofs.Common.{List, ◌++◌, map, refl, ap, ◌∙◌, rules, subst}
-use Rattle.upd_correct.specs.Corrections.{NewDeck}
+use Rattle.upd_correct.proofs.Common.{List, ◌++◌, map, refl, ap, ◌∙◌, rules, subst, NewDeck, deck_problem, refusals_at}
 use Rattle.upd_correct.specs.LineReads.{IsTakenAs}
-use Rattle.upd_correct.specs.Problems.{deck_problem}
-use Rattle.upd_correct.specs.Refusals.{refusals_at}
 use Rattle.upd_correct.proofs.ReadDeckLemmas.{card_taken, head_taken, lost_taken, wrong_taken}
 use Rattle.upd_correct.proofs.edited_deck.take_line.Goals as goal
 

@@ -1,5 +1,4 @@
-use Rattle.std.proofs.Common.{◌≡◌, ◌++◌, map, length}
-use Rattle.upd_correct.specs.EditedText.{lines_in}
+use Rattle.upd_correct.proofs.Common.{◌≡◌, ◌++◌, map, length, lines_in}
 use Rattle.upd_correct.proofs.edited_lines.cut_text.Given as goal
 
 abbrev pub invariant-loop-rest : goal.invariant-loop-rest

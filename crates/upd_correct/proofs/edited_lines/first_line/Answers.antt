@@ -1,6 +1,4 @@
-use Rattle.std.proofs.Common.{◌∷◌, sym, ◌∙◌, subst}
-use Rattle.std.proofs.lemmas.List.{take_all}
-use Rattle.upd_correct.specs.EditedText.{lines_in}
+use Rattle.upd_correct.proofs.Common.{◌∷◌, sym, ◌∙◌, subst, take_all, lines_in}
 use Rattle.upd_correct.proofs.TextLineLemmas.{HasNoFeed, lines_at_feed, some_line}
 use Rattle.upd_correct.proofs.edited_lines.first_line.Goals as goal
 

@@ -1,4 +1,4 @@
-use Rattle.std.proofs.Common.{take}
+use Rattle.upd_correct.proofs.Common.{take}
 use Rattle.upd_correct.proofs.TextLineLemmas.{HasNoFeed}
 use Rattle.upd_correct.proofs.edited_lines.first_line.Given as goal
 

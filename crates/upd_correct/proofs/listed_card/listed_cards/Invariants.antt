@@ -1,6 +1,4 @@
-use Rattle.std.proofs.Common.{◌≡◌, ◌++◌, drop, map}
-use Rattle.std.specs.List.{filter_map}
-use Rattle.upd_correct.specs.ListedDeck.{listed_card}
+use Rattle.upd_correct.proofs.Common.{◌≡◌, ◌++◌, drop, map, filter_map, listed_card}
 use Rattle.upd_correct.proofs.listed_card.listed_cards.Given as goal
 
 abbrev pub invariant-loop-line : goal.invariant-loop-line

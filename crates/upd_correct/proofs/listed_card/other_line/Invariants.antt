@@ -1,6 +1,4 @@
-use Rattle.std.proofs.Common.{◌≡◌, drop, map}
-use Rattle.upd_core.specs.First.{index_from}
-use Rattle.upd_correct.specs.ListedDeck.{is_other}
+use Rattle.upd_correct.proofs.Common.{◌≡◌, drop, map, index_from, is_other}
 use Rattle.upd_correct.proofs.listed_card.other_line.Given as goal
 
 abbrev pub invariant-loop-i : goal.invariant-loop-i

@@ -1,8 +1,5 @@
-use Rattle.std.specs.Borrow.{Bor}
-use Rattle.std.proofs.Common.{ℕ, List, map, ap, subst, rules, ◌∙◌}
-use Rattle.upd_core.specs.Library.{LibraryView}
+use Rattle.upd_correct.proofs.Common.{Bor, ℕ, List, map, ap, subst, rules, ◌∙◌, LibraryView, CorrectError}
 use Rattle.upd_correct.specs.Causes.{AreRefusals, IsCause}
-use Rattle.upd_correct.specs.declared.refusal.CorrectError.{CorrectError}
 use Rattle.upd_correct.specs.ListedDeck.{library_of}
 use Rattle.upd_correct.proofs.listed_deck.correct_listed.Goals as goal
 

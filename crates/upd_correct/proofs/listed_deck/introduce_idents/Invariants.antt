@@ -1,4 +1,4 @@
-use Rattle.std.proofs.Common.{◌≡◌, ◌≤◌, ◌+◌, drop, length}
+use Rattle.upd_correct.proofs.Common.{◌≡◌, ◌≤◌, ◌+◌, drop, length}
 use Rattle.upd_correct.specs.ListedDeck.{with_idents}
 use Rattle.upd_correct.proofs.listed_deck.introduce_idents.Given as goal
 

@@ -1,7 +1,4 @@
-use Rattle.std.specs.Borrow.{Bor}
-use Rattle.std.proofs.Common.{◌≤◌, ℕ, List, map, length, sym, subst, ◌∙◌}
-use Rattle.upd_text.specs.declared.limits.TheConstants.{MAX_CARDS}
-use Rattle.upd_correct.specs.ListedDeck.{ListedView}
+use Rattle.upd_correct.proofs.Common.{Bor, ◌≤◌, ℕ, List, map, length, sym, subst, ◌∙◌, MAX_CARDS, ListedView}
 use Rattle.upd_correct.proofs.CountLemmas.{cards_few}
 use Rattle.upd_correct.proofs.listed_deck.library_of.Goals as goal
 

@@ -1,4 +1,4 @@
-use Rattle.std.proofs.Common.{◌≡◌, ◌++◌, drop, map}
+use Rattle.upd_correct.proofs.Common.{◌≡◌, ◌++◌, drop, map}
 use Rattle.upd_correct.specs.ListedDeck.{card_listed}
 use Rattle.upd_correct.proofs.listed_deck.push_listed.Given as goal
 

@@ -1,6 +1,4 @@
-use Rattle.std.proofs.Common.{◌≡◌, drop, map}
-use Rattle.upd_core.specs.First.{index_from}
-use Rattle.upd_correct.specs.EditedText.{lines_in}
+use Rattle.upd_correct.proofs.Common.{◌≡◌, drop, map, index_from, lines_in}
 use Rattle.upd_correct.specs.Runs.{begins_other}
 use Rattle.upd_correct.proofs.other_deck.first_other.Given as goal
 

@@ -1,5 +1,4 @@
-use Rattle.std.proofs.Common.{◌≡◌, map, take}
-use Rattle.upd_correct.specs.Plans.{new_decks}
+use Rattle.upd_correct.proofs.Common.{◌≡◌, map, take, new_decks}
 use Rattle.upd_correct.proofs.plan.added_decks.Given as goal
 
 abbrev pub invariant-loop-deck : goal.invariant-loop-deck

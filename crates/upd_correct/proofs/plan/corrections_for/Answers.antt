@@ -1,8 +1,4 @@
-use Rattle.std.proofs.Common.{◌≡◌, ◌+◌, take, sym, ap, ◌∙◌, subst, Some, None, Vec, Global}
-use Rattle.upd_core.specs.Library.{deck_of}
-use Rattle.upd_core.specs.Status.{LiveView}
-use Rattle.upd_correct.specs.Corrections.{Correction, NewDeck}
-use Rattle.upd_correct.specs.Plans.{AreCorrectionsFor}
+use Rattle.upd_correct.proofs.Common.{◌≡◌, ◌+◌, take, sym, ap, ◌∙◌, subst, Some, None, Vec, Global, deck_of, LiveView, Correction, NewDeck, AreCorrectionsFor}
 use Rattle.upd_correct.proofs.PlanLemmas.{correction_skipped, next_correction}
 use Rattle.upd_correct.proofs.plan.corrections_for.Goals.{in-Some+in_ok-correction_of-in-Some+in_ok-push-in-Some, in-None}
 use Rattle.upd_correct.proofs.plan.corrections_for.Goals as goal

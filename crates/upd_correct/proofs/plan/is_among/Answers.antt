@@ -1,4 +1,4 @@
-use Rattle.std.proofs.Common.{sym, ◌∙◌}
+use Rattle.upd_correct.proofs.Common.{sym, ◌∙◌}
 use Rattle.upd_correct.proofs.PlanLemmas.{any_named}
 use Rattle.upd_correct.proofs.plan.is_among.Goals as goal
 

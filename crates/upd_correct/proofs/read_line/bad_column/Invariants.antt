@@ -1,6 +1,5 @@
-use Rattle.std.proofs.Common.{◌≡◌, ◌++◌, not, take, drop}
+use Rattle.upd_correct.proofs.Common.{◌≡◌, ◌++◌, not, take, drop, is_allowed}
 use Rattle.upd_text.specs.Lines.{up_to}
-use Rattle.upd_deck.specs.Reading.{is_allowed}
 use Rattle.upd_correct.proofs.read_line.bad_column.Given as goal
 
 abbrev pub invariant-loop-index : goal.invariant-loop-index

@@ -1,9 +1,7 @@
-use Rattle.std.proofs.Common.{◌≡◌, [], ◌∷◌, sym, subst, Ok}
+use Rattle.upd_correct.proofs.Common.{◌≡◌, [], ◌∷◌, sym, subst, LineView, reading, IsCardItem}
+use Rattle.std.proofs.Common.{Ok}
 use Rattle.upd_deck.specs.declared.item.Item.{Item}
-use Rattle.upd_deck.specs.Items.{LineView}
 use Rattle.upd_deck.specs.LineFields.{seen}
-use Rattle.upd_deck.specs.Reading.{reading}
-use Rattle.upd_correct.specs.Corrections.{IsCardItem}
 use Rattle.upd_correct.proofs.TextLineLemmas.{card_reading, read_card}
 use Rattle.upd_correct.proofs.read_line.line_by_item.Goals as goal
 

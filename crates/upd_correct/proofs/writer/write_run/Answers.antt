@@ -1,7 +1,4 @@
-use Rattle.std.proofs.Common.{map, ap, ◌++◌, ◌∙◌}
-use Rattle.std.specs.Borrow.{Bor}
-use Rattle.upd_correct.specs.Corrections.{NewDeck, edit_lines}
-use Rattle.upd_correct.specs.RunLines.{run_of}
+use Rattle.upd_correct.proofs.Common.{map, ap, ◌++◌, ◌∙◌, Bor, NewDeck, edit_lines, run_of}
 use Rattle.upd_correct.proofs.writer.write_run.Goals as goal
 
 pub returns-clause-bytes : goal.returns-clause-bytes

@@ -1,6 +1,4 @@
-use Rattle.std.proofs.Common.{map}
-use Rattle.upd_text.proofs.EachLemmas.{each_behind-none}
-use Rattle.upd_deck.specs.Reading.{one_in}
+use Rattle.upd_deck.proofs.Common.{map, each_behind-none, one_in}
 use Rattle.upd_deck.proofs.fields.each_in.Goals as goal
 
 pub loop-field-init : goal.loop-field-init

@@ -1,6 +1,4 @@
-use Rattle.std.proofs.Common.{◌≡◌, map, drop}
-use Rattle.upd_text.proofs.EachLemmas.{each_behind}
-use Rattle.upd_deck.specs.Reading.{each_in, one_in}
+use Rattle.upd_deck.proofs.Common.{◌≡◌, map, drop, each_behind, each_in, one_in}
 use Rattle.upd_deck.proofs.fields.each_in.Given as goal
 
 abbrev pub invariant-loop-field : goal.invariant-loop-field

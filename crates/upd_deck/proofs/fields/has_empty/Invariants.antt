@@ -1,5 +1,4 @@
-use Rattle.std.proofs.Common.{◌≡◌, ◌==◌, length, map, drop}
-use Rattle.std.specs.List.{list_any}
+use Rattle.upd_deck.proofs.Common.{◌≡◌, ◌==◌, length, map, drop, list_any}
 use Rattle.upd_deck.proofs.fields.has_empty.Given as goal
 
 abbrev pub invariant-loop-field : goal.invariant-loop-field

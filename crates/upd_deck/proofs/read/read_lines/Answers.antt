@@ -1,6 +1,4 @@
-use Rattle.std.proofs.Common.{arith}
-use Rattle.upd_text.proofs.EachLemmas.{each_behind-none}
-use Rattle.upd_deck.specs.Reading.{said_at}
+use Rattle.upd_deck.proofs.Common.{arith, each_behind-none, said_at}
 use Rattle.upd_deck.proofs.read.read_lines.Goals as goal
 
 pub loop-line-init : goal.loop-line-init

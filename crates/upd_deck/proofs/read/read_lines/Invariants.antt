@@ -1,7 +1,4 @@
-use Rattle.std.proofs.Common.{◌≡◌, ◌≤◌, length, drop}
-use Rattle.upd_text.proofs.EachLemmas.{each_behind}
-use Rattle.upd_text.specs.Outcome.{each}
-use Rattle.upd_deck.specs.Reading.{said_at}
+use Rattle.upd_deck.proofs.Common.{◌≡◌, ◌≤◌, length, drop, each_behind, each, said_at}
 use Rattle.upd_deck.proofs.read.read_lines.Given as goal
 
 abbrev pub invariant-loop-line : goal.invariant-loop-line

@@ -1,5 +1,4 @@
-use Rattle.std.proofs.Common.{◌≡◌, ◌≤◌, length}
-use Rattle.upd_deck.specs.Reading.{trimmed}
+use Rattle.upd_deck.proofs.Common.{◌≡◌, ◌≤◌, length, trimmed}
 use Rattle.upd_deck.proofs.read.trimmed.Given as goal
 
 abbrev pub invariant-loop-text : goal.invariant-loop-text

@@ -1,5 +1,5 @@
-use Rattle.std.proofs.Common.{◌≡◌, drop, map}
-use Rattle.upd_deck.specs.Reading.{meaning_in, spelled}
+use Rattle.upd_deck.proofs.Common.{◌≡◌, drop, map, spelled}
+use Rattle.upd_deck.specs.Reading.{meaning_in}
 use Rattle.upd_deck.proofs.word.meaning_in.Given as goal
 
 abbrev pub invariant-loop-spelling : goal.invariant-loop-spelling

@@ -1,10 +1,5 @@
 -- Each way out of the desk is what is expected for the arrival.
-use Rattle.std.proofs.Common.{◌<◌, ◌≤◌, inr, None, Some, Ok, Err, ap, sym, ◌∙◌, subst}
-use Rattle.std.proofs.lemmas.Bool.{false≢true}
-use Rattle.upd_core.specs.Library.{empty}
-use Rattle.upd_row_store.specs.Tables.{mark_at, run_at}
-use Rattle.upd_row_store.proofs.KeepingLemmas.{uncounted}
-use Rattle.upd_row_store.proofs.StoreLemmas.{keeps_keeps}
+use Rattle.upd_desk.proofs.Common.{◌<◌, ◌≤◌, inr, None, Some, Ok, Err, ap, sym, ◌∙◌, subst, false≢true, empty, mark_at, run_at, uncounted, keeps_keeps}
 use Rattle.upd_desk.proofs.ArrivesLemmas.{asked, changed_is, changed_keeps, keeps_arrives, keeps_new, loses, loses_new, lost_kind}
 use Rattle.upd_desk.proofs.ArrivesLemmas.{refuses_unadmitted, refuses_changed, refuses_settled, tells_kept, unstored}
 use Rattle.upd_desk.proofs.LoadingLemmas.{none_read_again}

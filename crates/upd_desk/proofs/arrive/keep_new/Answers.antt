@@ -1,7 +1,5 @@
 -- A new run is kept by the commit alone: its changes lead the tables to what the run makes of them.
-use Rattle.std.proofs.Common.{ap, map, sym}
-use Rattle.upd_records.specs.Changes.{change_view}
-use Rattle.upd_row_store.proofs.KeepingLemmas.{memory_is_lost}
+use Rattle.upd_desk.proofs.Common.{ap, map, sym, change_view, memory_is_lost}
 use Rattle.upd_desk.proofs.LeadLemmas.{outcome_adds}
 use Rattle.upd_desk.proofs.LoadingLemmas.{read_no_more}
 use Rattle.upd_desk.proofs.RefusedLemmas.{error_is}

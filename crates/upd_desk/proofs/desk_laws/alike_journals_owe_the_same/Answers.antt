@@ -1,5 +1,4 @@
-use Rattle.std.proofs.Common.{ap}
-use Rattle.upd_desk.specs.Journal.{made_by}
+use Rattle.upd_desk.proofs.Common.{ap, made_by}
 use Rattle.upd_desk.proofs.AlikeLemmas.{holds_alike}
 use Rattle.upd_desk.proofs.LawLemmas.{alike_later, answer_alike, kept_alike}
 use Rattle.upd_desk.proofs.desk_laws.alike_journals_owe_the_same.Goals as goal

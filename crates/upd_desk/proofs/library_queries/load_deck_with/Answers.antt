@@ -1,7 +1,5 @@
 -- The deck that holds a card is where it is found, and there is one at most.
-use Rattle.std.proofs.Common.{[], ◌∷◌, ap, ◌∙◌}
-use Rattle.upd_core.specs.Parts.{part_of}
-use Rattle.upd_row_store.specs.Asked.{decks_with}
+use Rattle.upd_desk.proofs.Common.{[], ◌∷◌, ap, ◌∙◌, part_of, decks_with}
 use Rattle.upd_desk.proofs.ListedLemmas.{card_listed}
 use Rattle.upd_desk.proofs.LoadingLemmas.{asked_read, still_read}
 use Rattle.upd_desk.proofs.QueryLemmas.{of_held, shown_there}
@@ -11,7 +9,8 @@ use Rattle.upd_desk.proofs.library_queries.load_deck_with.Goals as goal
 pub returns-in-Ok-clause-found : goal.returns-in-Ok-clause-found
 returns-in-Ok-clause-found g c honest l made rows shown shows =
     let before = c.in-Ok.ensures.leaves.same.later.honest honest in
-    let there = shown_there c.args.store.now c.decks_of.new.self c.in_ok-decks.ensures.leaves.same before (c.in_ok-decks.ensures.leaves.opens before) rows shown in
+    let there = shown_there c.args.store.now c.decks_of.new.self c.in_ok-decks.ensures.leaves.same before
+    (c.in_ok-decks.ensures.leaves.opens before) rows shown in
     card_listed c.args.card.now c.deref.result.now c.in-Ok.part l made.sound
     (c.deref.ensures.value ∙ c.in_ok-decks.ensures.found before l made.sound made.whole rows shown shows)
     (c.in-Ok.ensures.found honest l made.sound made.whole rows there shows)

@@ -1,7 +1,4 @@
-use Rattle.std.proofs.Common.{ℕ, true, List, map, ap, ◌∙◌}
-use Rattle.upd_core.specs.Library.{name_of}
-use Rattle.upd_compile.specs.File.{FileView}
-use Rattle.upd_desk.specs.Outcomes.{ReplyView}
+use Rattle.upd_desk.proofs.Common.{ℕ, true, List, map, ap, ◌∙◌, name_of, FileView, ReplyView}
 use Rattle.upd_desk.proofs.ShownLemmas.{all_shown, written}
 use Rattle.upd_desk.proofs.outcome.accepted_reply.Goals as goal
 

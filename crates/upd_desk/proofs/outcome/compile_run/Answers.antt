@@ -1,5 +1,5 @@
 -- Where active cards are at hand the file is written of them; where none are it is empty.
-use Rattle.std.proofs.Common.{List, Ok, ap, sym, ◌∙◌, subst}
+use Rattle.upd_desk.proofs.Common.{List, Ok, ap, sym, ◌∙◌, subst}
 use Rattle.upd_desk.specs.Compiling.{AreActivesFor}
 use Rattle.upd_desk.proofs.FileLemmas.{empty_file}
 use Rattle.upd_desk.proofs.outcome.compile_run.Goals as goal

@@ -1,13 +1,6 @@
 -- The statuses are updated on the part that was loaded as they are on the whole, and the file is the one of the whole, or its first fault.
-use Rattle.std.proofs.Common.{◌≤◌, length, map, refl, ap, sym, ◌∙◌, subst}
-use Rattle.std.proofs.lemmas.Result.{IfOk-weaker}
+use Rattle.upd_desk.proofs.Common.{◌≤◌, length, map, refl, ap, sym, ◌∙◌, subst, IfOk-weaker, LibraryView, change_view, altered, IsEnough, IsRefusal, Compiled}
 use Rattle.upd_core.specs.Counted.{CountedView}
-use Rattle.upd_core.specs.Library.{LibraryView}
-use Rattle.upd_records.specs.Changes.{change_view}
-use Rattle.upd_yank.specs.Affected.{altered}
-use Rattle.upd_yank.specs.Enough.{IsEnough}
-use Rattle.upd_desk.specs.Compiling.{IsRefusal}
-use Rattle.upd_desk.specs.Outcomes.{Compiled}
 use Rattle.upd_desk.proofs.LeadLemmas.{accepted_outcome, compiled_is, lead, least, refused_outcome, unfiled_is}
 use Rattle.upd_desk.proofs.RefusedLemmas.{fails_is}
 use Rattle.upd_desk.proofs.outcome.compiled_outcome.Goals as goal

@@ -1,5 +1,4 @@
-use Rattle.std.proofs.Common.{◌≡◌, map, take}
-use Rattle.upd_core.specs.Library.{name_of}
+use Rattle.upd_desk.proofs.Common.{◌≡◌, map, take, name_of}
 use Rattle.upd_desk.proofs.outcome.names.Given as goal
 
 abbrev pub invariant-loop-age : goal.invariant-loop-age

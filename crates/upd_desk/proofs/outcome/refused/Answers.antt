@@ -1,7 +1,4 @@
-use Rattle.std.proofs.Common.{ℕ, false, List, ap, refl, rules, sym, ◌∙◌, subst}
-use Rattle.upd_desk.specs.ReplyTexts.{AreShown, refused_text}
-use Rattle.upd_desk.specs.Arrivals.{ArrivalView}
-use Rattle.upd_desk.specs.Outcomes.{ReplyView}
+use Rattle.upd_desk.proofs.Common.{ℕ, false, List, ap, refl, rules, sym, ◌∙◌, subst, AreShown, refused_text, ArrivalView, ReplyView}
 use Rattle.upd_desk.proofs.MadeLemmas.{passed}
 use Rattle.upd_desk.proofs.ShownLemmas.{site_shown, word_shown}
 use Rattle.upd_desk.proofs.outcome.refused.Goals as goal

@@ -1,10 +1,5 @@
 -- Applied to the decks that it needs, the run is applied to the whole, and so is its refusal one of the whole.
-use Rattle.std.proofs.Common.{◌≡◌, Ok, Err, refl, subst, ◌∙◌}
-use Rattle.std.proofs.lemmas.Result.{IfOk-weaker}
-use Rattle.upd_deck.specs.Reading.{reading}
-use Rattle.upd_row_store.proofs.StoreLemmas.{keeps_keeps, keeps_still}
-use Rattle.upd_desk.specs.Arrivals.{ArrivalView}
-use Rattle.upd_desk.specs.Compiling.{IsRefusal}
+use Rattle.upd_desk.proofs.Common.{◌≡◌, Ok, Err, refl, subst, ◌∙◌, IfOk-weaker, reading, keeps_keeps, keeps_still, ArrivalView, IsRefusal}
 use Rattle.upd_desk.proofs.LeadLemmas.{refused_outcome, unapplied_is, unread_is}
 use Rattle.upd_desk.proofs.LoadingLemmas.{none_read_again, read_no_more, reads_of_run}
 use Rattle.upd_desk.proofs.LookingLemmas.{memory_reads, on_ok, only_reads, then_fails}

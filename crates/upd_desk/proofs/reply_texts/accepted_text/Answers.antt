@@ -1,7 +1,4 @@
-use Rattle.std.proofs.Common.{◌≡◌, false, ap, ◌∙◌, refl}
-use Rattle.serde_json.specs.View.{view}
-use Rattle.serde_json.specs.Written.{compact_text, has_float}
-use Rattle.upd_desk.specs.ReplyValues.{accepted_value}
+use Rattle.upd_desk.proofs.Common.{◌≡◌, false, ap, ◌∙◌, refl, view, compact_text, has_float, accepted_value}
 use Rattle.upd_desk.proofs.ReplyLemmas.{accepted_written, all_utf8, no_float_items, utf8}
 use Rattle.upd_desk.proofs.reply_texts.accepted_text.Goals as goal
 

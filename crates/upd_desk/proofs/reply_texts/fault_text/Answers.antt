@@ -1,7 +1,4 @@
-use Rattle.std.proofs.Common.{◌≡◌, false, ap, ◌∙◌, refl}
-use Rattle.serde_json.specs.View.{view}
-use Rattle.serde_json.specs.Written.{compact_text, has_float}
-use Rattle.upd_desk.specs.ReplyValues.{fault_value}
+use Rattle.upd_desk.proofs.Common.{◌≡◌, false, ap, ◌∙◌, refl, view, compact_text, has_float, fault_value}
 use Rattle.upd_desk.proofs.ReplyLemmas.{fault_written}
 use Rattle.upd_desk.proofs.reply_texts.fault_text.Goals as goal
 

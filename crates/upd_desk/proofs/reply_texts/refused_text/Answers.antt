@@ -1,7 +1,4 @@
-use Rattle.std.proofs.Common.{◌≡◌, false, ap, ◌∙◌, refl}
-use Rattle.serde_json.specs.View.{view}
-use Rattle.serde_json.specs.Written.{compact_text, has_float}
-use Rattle.upd_desk.specs.ReplyValues.{refused_value}
+use Rattle.upd_desk.proofs.Common.{◌≡◌, false, ap, ◌∙◌, refl, view, compact_text, has_float, refused_value}
 use Rattle.upd_desk.proofs.ReplyLemmas.{refused_written}
 use Rattle.upd_desk.proofs.reply_texts.refused_text.Goals as goal
 

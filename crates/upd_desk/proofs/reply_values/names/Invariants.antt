@@ -1,8 +1,5 @@
-use Rattle.std.proofs.Common.{◌≡◌, map, take}
-use Rattle.std.specs.Str.{IsUtf8}
-use Rattle.std.specs.List.{AllByRecursion}
+use Rattle.upd_desk.proofs.Common.{◌≡◌, map, take, IsUtf8, AllByRecursion, view}
 use Rattle.serde_json.specs.Data.{string}
-use Rattle.serde_json.specs.View.{view}
 use Rattle.upd_desk.proofs.reply_values.names.Given as goal
 
 abbrev pub invariant-loop-ident : goal.invariant-loop-ident

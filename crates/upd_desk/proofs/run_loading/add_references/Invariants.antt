@@ -1,4 +1,5 @@
-use Rattle.std.proofs.Common.{◌≡◌, ◌++◌, map, drop}
+use Rattle.upd_desk.proofs.Common.{◌≡◌, ◌++◌, map}
+use Rattle.std.proofs.Common.{drop}
 use Rattle.upd_desk.proofs.run_loading.add_references.Given as goal
 
 abbrev pub invariant-loop-card : goal.invariant-loop-card

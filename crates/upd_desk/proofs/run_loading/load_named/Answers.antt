@@ -1,7 +1,5 @@
 -- The decks of the cards that are named are loaded, or all where one is a yank card, which is seen without any deck.
-use Rattle.std.proofs.Common.{[], length, ◌≡◌, sym, ◌∙◌, refl, arith}
-use Rattle.std.proofs.lemmas.Bool.Decides.{nat_tests}
-use Rattle.upd_row_store.proofs.StoreLemmas.{keeps_still}
+use Rattle.upd_desk.proofs.Common.{[], length, ◌≡◌, sym, ◌∙◌, refl, arith, nat_tests, keeps_still}
 use Rattle.upd_desk.proofs.LoadingLemmas.{all_loaded, head_read, homes_loaded, needed_read, needs_named, needs_seen, needs_yanks, no_ages}
 use Rattle.upd_desk.proofs.LoadingLemmas.{none_read, still_read, within}
 use Rattle.upd_desk.proofs.LookingLemmas.{memory_reads}
@@ -10,7 +8,8 @@ use Rattle.upd_desk.proofs.run_loading.load_named.Goals.{in-Ok, in-Err}
 use Rattle.upd_desk.proofs.run_loading.load_named.Goals as goal
 
 pub returns-in_err-cards-clause-leaves : goal.returns-in_err-cards-clause-leaves
-returns-in_err-cards-clause-leaves g c = memory_reads c.from_residual.result c.args.store.now c.args.store.now c.from_residual.ensures.1 (keeps_still c.args.store.now) refl
+returns-in_err-cards-clause-leaves g c =
+    memory_reads c.from_residual.result c.args.store.now c.args.store.now c.from_residual.ensures.1 (keeps_still c.args.store.now) refl
 
 pub returns-then-not-homes-clause-found : goal.returns-then-not-homes-clause-found
 returns-then-not-homes-clause-found g c honest =

@@ -1,5 +1,5 @@
 -- A run that yanks or purges needs all decks.
-use Rattle.std.proofs.Common.{arith, sym, ◌∙◌}
+use Rattle.upd_desk.proofs.Common.{arith, sym, ◌∙◌}
 use Rattle.upd_desk.proofs.LoadingLemmas.{all_loaded, needed_read, needs_all}
 use Rattle.upd_desk.proofs.run_loading.load_needed.Goals as goal
 

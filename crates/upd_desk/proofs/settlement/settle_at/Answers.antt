@@ -1,6 +1,5 @@
 -- Each way out of a settlement is what is expected for it.
-use Rattle.std.proofs.Common.{sym}
-use Rattle.upd_row_store.proofs.StoreLemmas.{keeps_still}
+use Rattle.upd_desk.proofs.Common.{sym, keeps_still}
 use Rattle.upd_desk.proofs.RefusedLemmas.{error_is}
 use Rattle.upd_desk.proofs.SettlesLemmas.{loses_key, loses_settlement, refuses_key, settles_after, tells_mark}
 use Rattle.upd_desk.proofs.settlement.settle_at.Goals as goal

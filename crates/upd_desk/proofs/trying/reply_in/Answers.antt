@@ -1,8 +1,5 @@
 -- A run that is refused gets the defined refusal.
-use Rattle.std.proofs.Common.{◌≡◌, Result, Ok, Err, ap, sym, ◌∙◌, subst}
-use Rattle.upd_text.specs.declared.fault.Fault.{Fault}
-use Rattle.upd_desk.specs.Arrivals.{ArrivalView}
-use Rattle.upd_desk.specs.Outcomes.{Compiled, compiled, outcome_by}
+use Rattle.upd_desk.proofs.Common.{◌≡◌, Result, Ok, Err, ap, sym, ◌∙◌, subst, Fault, ArrivalView, Compiled, compiled, outcome_by}
 use Rattle.upd_desk.proofs.RefusedLemmas.{fails_is}
 use Rattle.upd_desk.proofs.trying.reply_in.Goals as goal
 

@@ -1,5 +1,5 @@
 -- A run that passed the admission checks fails only where memory runs out.
-use Rattle.upd_desk.specs.Arrivals.{check_arrival}
+use Rattle.upd_desk.proofs.Common.{check_arrival}
 use Rattle.upd_desk.proofs.RefusedLemmas.{fails_memory}
 use Rattle.upd_desk.proofs.trying.reply_on.Goals as goal
 

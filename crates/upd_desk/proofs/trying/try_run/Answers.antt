@@ -1,7 +1,4 @@
-use Rattle.std.proofs.Common.{ℕ, List, refl, ap, sym, ◌∙◌}
-use Rattle.upd_core.specs.Library.{LibraryView}
-use Rattle.upd_apply.specs.Applying.{applied}
-use Rattle.upd_compile.specs.File.{compile_file_of}
+use Rattle.upd_desk.proofs.Common.{ℕ, List, refl, ap, sym, ◌∙◌, LibraryView, applied, compile_file_of}
 use Rattle.upd_desk.proofs.LeadLemmas.{compiled_is}
 use Rattle.upd_desk.proofs.trying.try_run.Goals as goal
 

@@ -1,5 +1,4 @@
-use Rattle.std.proofs.Common.{◌≡◌, ◌++◌, map, drop}
-use Rattle.upd_diff.specs.CardDiffs.{Gone, card_diff_view}
+use Rattle.upd_diff.proofs.Common.{◌≡◌, ◌++◌, map, drop, Gone, card_diff_view}
 use Rattle.upd_diff.proofs.card_diffs.add_gone.Given as goal
 
 abbrev pub invariant-loop-card : goal.invariant-loop-card

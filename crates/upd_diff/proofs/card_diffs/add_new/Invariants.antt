@@ -1,5 +1,4 @@
-use Rattle.std.proofs.Common.{◌≡◌, ◌++◌, map, drop}
-use Rattle.upd_diff.specs.CardDiffs.{New, card_diff_view}
+use Rattle.upd_diff.proofs.Common.{◌≡◌, ◌++◌, map, drop, New, card_diff_view}
 use Rattle.upd_diff.proofs.card_diffs.add_new.Given as goal
 
 abbrev pub invariant-loop-card : goal.invariant-loop-card

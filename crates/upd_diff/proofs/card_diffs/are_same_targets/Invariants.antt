@@ -1,4 +1,4 @@
-use Rattle.std.proofs.Common.{◌≡◌, length, take}
+use Rattle.upd_diff.proofs.Common.{◌≡◌, length, take}
 use Rattle.upd_diff.proofs.card_diffs.are_same_targets.Given as goal
 
 abbrev pub invariant-loop-i : goal.invariant-loop-i

@@ -1,4 +1,4 @@
-use Rattle.std.proofs.lemmas.List.{take_rest}
+use Rattle.upd_diff.proofs.Common.{take_rest}
 use Rattle.upd_diff.proofs.CardDiffLemmas.{diffs_end}
 use Rattle.upd_diff.proofs.card_diffs.card_diffs.Goals as goal
 

@@ -1,6 +1,4 @@
-use Rattle.std.proofs.Common.{◌≡◌, ◌+◌, [], ◌∷◌, drop, ap, subst, ◌∙◌}
-use Rattle.std.proofs.lemmas.List.{drop_more}
-use Rattle.upd_diff.specs.CardDiffs.{AreCardDiffs, AreOfDeck, Await}
+use Rattle.upd_diff.proofs.Common.{◌≡◌, ◌+◌, [], ◌∷◌, drop, ap, subst, ◌∙◌, drop_more, AreCardDiffs, AreOfDeck, Await}
 use Rattle.upd_diff.proofs.LeadLemmas.{await_gone, await_pair, first_left}
 use Rattle.upd_diff.proofs.deck_diffs.add_deck.Goals as goal
 

@@ -1,6 +1,4 @@
-use Rattle.std.proofs.Common.{◌≡◌, ◌+◌, ◌∷◌, drop, ap, sym, subst, ◌∙◌, arith}
-use Rattle.std.proofs.lemmas.List.{drop_more, drop_all}
-use Rattle.upd_diff.specs.CardDiffs.{Await}
+use Rattle.upd_diff.proofs.Common.{◌≡◌, ◌+◌, ◌∷◌, drop, ap, sym, subst, ◌∙◌, arith, drop_more, drop_all, Await}
 use Rattle.upd_diff.proofs.deck_diffs.add_decks.Goals as goal
 
 pub loop-deck-preserved : goal.loop-deck-preserved

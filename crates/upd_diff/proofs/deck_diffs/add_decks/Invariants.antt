@@ -1,6 +1,4 @@
-use Rattle.std.proofs.Common.{◌≤◌, List, length, drop}
-use Rattle.upd_core.specs.Library.{DeckView}
-use Rattle.upd_diff.specs.CardDiffs.{Await}
+use Rattle.upd_diff.proofs.Common.{◌≤◌, List, length, drop, DeckView, Await}
 use Rattle.upd_diff.proofs.deck_diffs.add_decks.Given as goal
 
 abbrev pub invariant-loop-deck : goal.invariant-loop-deck

@@ -1,6 +1,4 @@
-use Rattle.std.proofs.Common.{◌≡◌, ◌+◌, [], ◌∷◌, drop, ap, sym, subst, ◌∙◌, arith}
-use Rattle.std.proofs.lemmas.List.{drop_more, drop_all}
-use Rattle.upd_diff.specs.CardDiffs.{AreCardDiffs, AreOfDeck, Await}
+use Rattle.upd_diff.proofs.Common.{◌≡◌, ◌+◌, [], ◌∷◌, drop, ap, sym, subst, ◌∙◌, arith, drop_more, drop_all, AreCardDiffs, AreOfDeck, Await}
 use Rattle.upd_diff.proofs.LeadLemmas.{await_new, await_none}
 use Rattle.upd_diff.proofs.deck_diffs.add_new_decks.Goals as goal
 

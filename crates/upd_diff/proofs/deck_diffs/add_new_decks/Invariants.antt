@@ -1,6 +1,4 @@
-use Rattle.std.proofs.Common.{List, [], drop}
-use Rattle.upd_core.specs.Library.{DeckView}
-use Rattle.upd_diff.specs.CardDiffs.{Await}
+use Rattle.upd_diff.proofs.Common.{List, [], drop, DeckView, Await}
 use Rattle.upd_diff.proofs.deck_diffs.add_new_decks.Given as goal
 
 abbrev pub invariant-loop-deck : goal.invariant-loop-deck

@@ -1,7 +1,4 @@
-use Rattle.std.proofs.Common.{[], drop, inl, refl, subst, sym}
-use Rattle.std.proofs.lemmas.List.{take_rest}
-use Rattle.upd_core.specs.Library.{all_decks}
-use Rattle.upd_diff.specs.CardDiffs.{AreCardDiffs, AreOfDeck, Await}
+use Rattle.upd_diff.proofs.Common.{[], drop, inl, refl, subst, sym, take_rest, all_decks, AreCardDiffs, AreOfDeck, Await}
 use Rattle.upd_diff.proofs.deck_diffs.library_diff.Goals as goal
 
 pub returns : goal.returns

@@ -1,7 +1,4 @@
-use Rattle.std.proofs.Common.{◌≡◌, map}
-use Rattle.upd_core.specs.Library.{all_decks}
-use Rattle.upd_records.specs.Changes.{change_view}
-use Rattle.upd_diff.specs.RowChanges.{row_changes}
+use Rattle.upd_diff.proofs.Common.{◌≡◌, map, all_decks, change_view, row_changes}
 use Rattle.upd_diff.proofs.LeadLemmas.{paired_lead}
 use Rattle.upd_diff.proofs.ShownRowsLemmas.{fit_row_changes, shown_by_row_changes, taken_by_row_changes}
 use Rattle.upd_diff.proofs.difference.compare.Goals as goal

@@ -1,7 +1,4 @@
-use Rattle.std.proofs.Common.{◌≡◌, ◌++◌, map, drop}
-use Rattle.std.specs.List.{flat_map}
-use Rattle.upd_records.specs.Changes.{change_view}
-use Rattle.upd_diff.specs.RowChanges.{brought}
+use Rattle.upd_diff.proofs.Common.{◌≡◌, ◌++◌, map, drop, flat_map, change_view, brought}
 use Rattle.upd_diff.proofs.row_changes.add_all_brought.Given as goal
 
 abbrev pub invariant-loop-deck : goal.invariant-loop-deck

@@ -1,7 +1,4 @@
-use Rattle.std.proofs.Common.{◌≡◌, ◌≤◌, ◌++◌, map, drop}
-use Rattle.upd_records.specs.Changes.{change_view}
-use Rattle.upd_diff.specs.CardDiffs.{card_diff_view}
-use Rattle.upd_diff.specs.RowChanges.{brought}
+use Rattle.upd_diff.proofs.Common.{◌≡◌, ◌≤◌, ◌++◌, map, drop, change_view, card_diff_view, brought}
 use Rattle.upd_diff.proofs.row_changes.add_brought.Given as goal
 
 abbrev pub invariant-loop-card_diff : goal.invariant-loop-card_diff

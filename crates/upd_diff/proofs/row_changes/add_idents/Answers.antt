@@ -1,7 +1,4 @@
-use Rattle.std.proofs.Common.{◌≡◌, ◌++◌, [], map, drop, arith, ap, sym, ◌∙◌, append-nil}
-use Rattle.std.proofs.lemmas.List.{drop_all}
-use Rattle.upd_records.specs.Changes.{change_view}
-use Rattle.upd_diff.specs.RowChanges.{ident_changes}
+use Rattle.upd_diff.proofs.Common.{◌≡◌, ◌++◌, [], map, drop, arith, ap, sym, ◌∙◌, append-nil, drop_all, change_view, ident_changes}
 use Rattle.upd_diff.proofs.LoopLemmas.{no_idents_more}
 use Rattle.upd_diff.proofs.row_changes.add_idents.Goals as goal
 

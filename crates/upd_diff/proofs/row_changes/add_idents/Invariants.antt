@@ -1,6 +1,4 @@
-use Rattle.std.proofs.Common.{◌≡◌, ◌++◌, map, drop}
-use Rattle.upd_records.specs.Changes.{change_view}
-use Rattle.upd_diff.specs.RowChanges.{ident_changes}
+use Rattle.upd_diff.proofs.Common.{◌≡◌, ◌++◌, map, drop, change_view, ident_changes}
 use Rattle.upd_diff.proofs.row_changes.add_idents.Given as goal
 
 abbrev pub invariant-loop-i : goal.invariant-loop-i

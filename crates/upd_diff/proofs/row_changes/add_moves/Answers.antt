@@ -1,7 +1,4 @@
-use Rattle.std.proofs.Common.{◌+◌, ◌++◌, map, drop, arith, ap, sym, ◌∙◌, append_assoc}
-use Rattle.upd_records.specs.Changes.{change_view}
-use Rattle.upd_diff.specs.CardDiffs.{card_diff_view}
-use Rattle.upd_diff.specs.RowChanges.{move_to, moves}
+use Rattle.upd_diff.proofs.Common.{◌+◌, ◌++◌, map, drop, arith, ap, sym, ◌∙◌, append_assoc, change_view, card_diff_view, move_to, moves}
 use Rattle.upd_diff.proofs.LoopLemmas.{next_diffs}
 use Rattle.upd_diff.proofs.row_changes.add_moves.Goals as goal
 use Rattle.upd_diff.proofs.row_changes.add_moves.Goals.{in-Kept+in_ok-add_move-in-Kept, in-Gone, in-New}
@@ -18,7 +15,8 @@ loop-card_diff-preserved c =
             omega arith,
             rw (w.changes-is, w.from-is, w.to-is)
                 (ap (λ t. t ++ moves c.args.deck (c.loop-card_diff.to + 1) (c.loop-card_diff.to + 1) rest) w.in_ok-add_move-in-Kept.ensures
-                ∙ append_assoc so_far (move_to c.args.deck c.loop-card_diff.from c.loop-card_diff.to) (moves c.args.deck (c.loop-card_diff.to + 1) (c.loop-card_diff.to + 1) rest)
+                ∙ append_assoc so_far (move_to c.args.deck c.loop-card_diff.from c.loop-card_diff.to)
+                (moves c.args.deck (c.loop-card_diff.to + 1) (c.loop-card_diff.to + 1) rest)
                 ∙ ap (λ t. so_far ++ moves c.args.deck c.loop-card_diff.from c.loop-card_diff.to t) (sym here) ∙ c.loop-card_diff.invariant.2),
           )
       | in-Gone w ↦

@@ -1,6 +1,4 @@
-use Rattle.std.proofs.Common.{◌≡◌, ◌++◌, map, drop}
-use Rattle.upd_records.specs.Changes.{change_view}
-use Rattle.upd_diff.specs.RowChanges.{targets_new}
+use Rattle.upd_diff.proofs.Common.{◌≡◌, ◌++◌, map, drop, change_view, targets_new}
 use Rattle.upd_diff.proofs.row_changes.add_targets.Given as goal
 
 abbrev pub invariant-loop-ord : goal.invariant-loop-ord

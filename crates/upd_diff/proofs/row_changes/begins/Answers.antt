@@ -1,4 +1,4 @@
-use Rattle.std.proofs.Common.{sym}
+use Rattle.upd_diff.proofs.Common.{sym}
 use Rattle.upd_diff.proofs.LoopLemmas.{too_short}
 use Rattle.upd_diff.proofs.row_changes.begins.Goals as goal
 

@@ -1,5 +1,4 @@
-use Rattle.std.proofs.Common.{◌≡◌, ◌≤◌, drop, length}
-use Rattle.upd_diff.specs.RowChanges.{begins}
+use Rattle.upd_diff.proofs.Common.{◌≡◌, ◌≤◌, drop, length, begins}
 use Rattle.upd_diff.proofs.row_changes.begins.Given as goal
 
 abbrev pub invariant-loop-i : goal.invariant-loop-i

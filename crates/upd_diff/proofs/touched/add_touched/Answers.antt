@@ -1,8 +1,6 @@
-use Rattle.std.proofs.Common.{◌+◌, ◌++◌, not, map, drop, ap, sym, subst, ◌∙◌}
-use Rattle.std.specs.List.{AllByRecursion, filter, flat_map}
-use Rattle.upd_core.specs.Library.{ref_of}
-use Rattle.upd_diff.specs.CardDiffs.{card_after, card_diff_view}
-use Rattle.upd_diff.specs.Touched.{IsOf, stood_in}
+use Rattle.upd_diff.proofs.Common.{◌+◌, ◌++◌, map, drop, ap, sym, subst, ◌∙◌, AllByRecursion, filter, flat_map, ref_of, card_after, card_diff_view, IsOf}
+use Rattle.upd_diff.proofs.Common.{stood_in}
+use Rattle.std.proofs.Common.{not}
 use Rattle.upd_diff.proofs.LoopLemmas.{next_diffs}
 use Rattle.upd_diff.proofs.TouchedLemmas.{card_more}
 use Rattle.upd_diff.proofs.touched.add_touched.Goals as goal
@@ -30,7 +28,8 @@ loop-card_diff-preserved c = λ apart all.
           let of = subst (AllByRecursion (IsOf before c.args.sure)) here so.0 in (
             of.1,
             rw w.found-is
-                (ap (λ t. c.loop-card_diff.found.items ++ map (ref_of idents) (filter (λ k. not (stood_in before k)) (flat_map card_after t))) (sym here) ∙ so.1),
+                (ap (λ t. c.loop-card_diff.found.items ++ map (ref_of idents) (filter (λ k. not (stood_in before k)) (flat_map card_after t))) (sym here)
+                ∙ so.1),
           )
       | in-New+in_ok-add_unless-in-New w ↦
           let here = rw w.in-New.is at next in

@@ -1,9 +1,5 @@
-use Rattle.std.proofs.Common.{◌≡◌, ◌++◌, not, map, drop}
-use Rattle.std.specs.List.{AllByRecursion, filter, flat_map}
-use Rattle.upd_core.specs.Library.{ref_of}
-use Rattle.upd_core.specs.Sound.{AreApart, key_of}
-use Rattle.upd_diff.specs.CardDiffs.{card_after, card_diff_view}
-use Rattle.upd_diff.specs.Touched.{IsOf, stood_in}
+use Rattle.upd_diff.proofs.Common.{◌≡◌, ◌++◌, map, drop, AllByRecursion, filter, flat_map, ref_of, AreApart, key_of, card_after, card_diff_view, IsOf, stood_in}
+use Rattle.std.proofs.Common.{not}
 use Rattle.upd_diff.proofs.touched.add_touched.Given as goal
 
 abbrev pub invariant-loop-card_diff : goal.invariant-loop-card_diff

@@ -1,5 +1,4 @@
-use Rattle.std.proofs.Common.{ap, arith}
-use Rattle.upd_core.specs.Library.{DeckView}
+use Rattle.upd_diff.proofs.Common.{ap, arith, DeckView}
 use Rattle.upd_diff.proofs.TouchedLemmas.{rising_step}
 use Rattle.upd_diff.proofs.touched.are_rising.Goals as goal
 

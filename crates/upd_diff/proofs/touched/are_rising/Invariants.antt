@@ -1,5 +1,4 @@
-use Rattle.std.proofs.Common.{◌∷◌, map, drop}
-use Rattle.upd_core.specs.Sound.{AreRising}
+use Rattle.upd_diff.proofs.Common.{◌∷◌, map, drop, AreRising}
 use Rattle.upd_diff.proofs.touched.are_rising.Given as goal
 
 abbrev pub invariant-loop-deck : goal.invariant-loop-deck

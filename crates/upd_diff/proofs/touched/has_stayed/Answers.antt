@@ -1,6 +1,4 @@
-use Rattle.std.proofs.Common.{ap, ◌∙◌}
-use Rattle.upd_core.specs.Library.{CardView}
-use Rattle.upd_diff.specs.Touched.{same_history}
+use Rattle.upd_diff.proofs.Common.{ap, ◌∙◌, CardView, same_history}
 use Rattle.upd_diff.proofs.TouchedLemmas.{stayed}
 use Rattle.upd_diff.proofs.touched.has_stayed.Goals as goal
 

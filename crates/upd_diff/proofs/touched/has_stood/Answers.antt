@@ -1,6 +1,4 @@
-use Rattle.std.proofs.Common.{Bool, sym}
-use Rattle.upd_core.specs.Library.{CardView}
-use Rattle.upd_diff.specs.Touched.{same_history}
+use Rattle.upd_diff.proofs.Common.{Bool, sym, CardView, same_history}
 use Rattle.upd_diff.proofs.TouchedLemmas.{none_younger, stood_nowhere}
 use Rattle.upd_diff.proofs.touched.has_stood.Goals as goal
 

@@ -1,5 +1,5 @@
 use Rattle.std.proofs.lemmas.Grind.{common_steps}
-use Rattle.std.proofs.Common.{arith, sym}
+use Rattle.upd_diff.proofs.Common.{arith, sym}
 use Rattle.upd_diff.proofs.TouchedLemmas.{other_history}
 use Rattle.upd_diff.proofs.touched.is_same_history.Goals as goal
 

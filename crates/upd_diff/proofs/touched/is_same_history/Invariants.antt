@@ -1,5 +1,4 @@
-use Rattle.std.proofs.Common.{◌≡◌, drop, length}
-use Rattle.upd_diff.specs.Touched.{same_history}
+use Rattle.upd_diff.proofs.Common.{◌≡◌, drop, length, same_history}
 use Rattle.upd_diff.proofs.touched.is_same_history.Given as goal
 
 abbrev pub invariant-loop-i : goal.invariant-loop-i

@@ -1,5 +1,4 @@
-use Rattle.std.proofs.Common.{◌≡◌, drop}
-use Rattle.upd_diff.specs.Touched.{stood_in}
+use Rattle.upd_diff.proofs.Common.{◌≡◌, drop, stood_in}
 use Rattle.upd_diff.proofs.touched.stood_in.Given as goal
 
 abbrev pub invariant-loop-old : goal.invariant-loop-old

@@ -1,6 +1,4 @@
-use Rattle.std.proofs.Common.{◌++◌, ap, sym, subst, ◌∙◌, arith}
-use Rattle.upd_diff.specs.CardDiffs.{DeckDiffView, deck_after}
-use Rattle.upd_diff.specs.Touched.{touched_in}
+use Rattle.upd_diff.proofs.Common.{◌++◌, ap, sym, subst, ◌∙◌, arith, DeckDiffView, deck_after, touched_in}
 use Rattle.upd_diff.proofs.TouchedLemmas.{AreOf, apart_in_deck, deck_more, decks_all, lead_are_of}
 use Rattle.upd_diff.proofs.touched.touched.Goals as goal
 

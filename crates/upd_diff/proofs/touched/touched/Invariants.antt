@@ -1,8 +1,4 @@
-use Rattle.std.proofs.Common.{◌≡◌, ◌++◌, map, drop}
-use Rattle.std.specs.List.{AllByRecursion, flat_map}
-use Rattle.upd_core.specs.Sound.{AreApart, all_cards, key_of}
-use Rattle.upd_diff.specs.CardDiffs.{deck_after}
-use Rattle.upd_diff.specs.Touched.{touched_in}
+use Rattle.upd_diff.proofs.Common.{◌≡◌, ◌++◌, map, drop, AllByRecursion, flat_map, AreApart, all_cards, key_of, deck_after, touched_in}
 use Rattle.upd_diff.proofs.TouchedLemmas.{AreOf}
 use Rattle.upd_diff.proofs.touched.touched.Given as goal
 

@@ -1,5 +1,5 @@
-use Rattle.std.proofs.Common.{ℕ, ◌<◌, ◌≤◌, slice_index_or}
-use Rattle.upd_core.specs.Library.{CardView}
+use Rattle.upd_diff.proofs.Common.{ℕ, ◌<◌, ◌≤◌, CardView}
+use Rattle.std.proofs.Common.{slice_index_or}
 use Rattle.upd_diff.proofs.touched.youngest.Given as goal
 
 abbrev pub invariant-loop-card : goal.invariant-loop-card

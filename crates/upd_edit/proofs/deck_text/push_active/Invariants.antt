@@ -1,5 +1,5 @@
-use Rattle.std.proofs.Common.{◌≡◌, ◌++◌, drop}
-use Rattle.std.specs.List.{filter, flat_map}
+use Rattle.upd_edit.proofs.Common.{◌≡◌, ◌++◌, drop, flat_map}
+use Rattle.std.specs.List.{filter}
 use Rattle.upd_core.specs.Status.{is_active}
 use Rattle.upd_edit.specs.ActiveText.{card_line}
 use Rattle.upd_edit.proofs.deck_text.push_active.Given as goal

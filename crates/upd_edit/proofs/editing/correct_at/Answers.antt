@@ -1,8 +1,7 @@
 use Rattle.upd_correct.specs.Causes.{AreRefusals, IsCause}
 use Rattle.upd_correct.specs.Correcting.{CorrectsTo}
 use Rattle.upd_correct.specs.Refusals.{refusals_of}
-use Rattle.std.proofs.Common.{◌≡◌, [], subst}
-use Rattle.upd_row_store.proofs.KeepingLemmas.{memory_is_lost}
+use Rattle.upd_edit.proofs.Common.{◌≡◌, [], subst, memory_is_lost}
 use Rattle.upd_edit.proofs.ToldLemmas.{held_of}
 use Rattle.upd_edit.proofs.editing.correct_at.Goals as goal
 

@@ -1,5 +1,4 @@
-use Rattle.std.proofs.Common.{map, subst}
-use Rattle.upd_row_store.proofs.KeepingLemmas.{memory_is_lost}
+use Rattle.upd_edit.proofs.Common.{map, subst, memory_is_lost}
 use Rattle.upd_correct.specs.Parts.{CorrectsInParts, IsPartsCause}
 use Rattle.upd_edit.specs.EditCauses.{IsPartsRefusal}
 use Rattle.upd_edit.specs.declared.editing.EditError.TheVariants.{Refused}

@@ -1,8 +1,4 @@
-use Rattle.std.proofs.Common.{Ok, Err, ◌∙◌}
-use Rattle.upd_row_store.proofs.KeepingLemmas.{uncounted}
-use Rattle.upd_desk.proofs.ArrivesLemmas.{unstored}
-use Rattle.upd_desk.proofs.QueryLemmas.{fails_owed, store_fails}
-use Rattle.upd_edit.specs.Source.{source}
+use Rattle.upd_edit.proofs.Common.{Ok, Err, ◌∙◌, uncounted, unstored, fails_owed, store_fails, source}
 use Rattle.upd_edit.proofs.ToldLemmas.{none_told, shown_error, source_keeps, told_of}
 use Rattle.upd_edit.proofs.editing.source_at.Goals as goal
 

@@ -1,10 +1,5 @@
-use Rattle.std.proofs.Common.{Ok, Err, ◌∙◌}
-use Rattle.upd_row_store.proofs.KeepingLemmas.{uncounted}
-use Rattle.upd_desk.specs.Arrivals.{check_arrival}
+use Rattle.upd_edit.proofs.Common.{Ok, Err, ◌∙◌, uncounted, check_arrival, unstored, fails_owed, store_fails, tried}
 use Rattle.upd_desk.specs.Outcomes.{reply_on}
-use Rattle.upd_desk.proofs.ArrivesLemmas.{unstored}
-use Rattle.upd_desk.proofs.QueryLemmas.{fails_owed, store_fails}
-use Rattle.upd_edit.specs.Trying.{tried}
 use Rattle.upd_edit.proofs.ToldLemmas.{none_told, told_of, tried_keeps}
 use Rattle.upd_edit.proofs.editing.try_at.Goals as goal
 

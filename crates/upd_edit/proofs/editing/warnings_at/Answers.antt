@@ -1,5 +1,4 @@
-use Rattle.std.proofs.Common.{Ok, Err}
-use Rattle.upd_desk.proofs.QueryLemmas.{fails_owed}
+use Rattle.upd_edit.proofs.Common.{Ok, Err, fails_owed}
 use Rattle.upd_edit.specs.Warnings.{warning_lines}
 use Rattle.upd_edit.proofs.ToldLemmas.{none_told, shown_error, told_of}
 use Rattle.upd_edit.proofs.editing.warnings_at.Goals as goal

@@ -1,5 +1,4 @@
-use Rattle.std.proofs.Common.{◌≡◌, ◌++◌, drop}
-use Rattle.std.specs.List.{flat_map}
+use Rattle.upd_edit.proofs.Common.{◌≡◌, ◌++◌, drop, flat_map}
 use Rattle.upd_edit.specs.RefusalLines.{refusal_line}
 use Rattle.upd_edit.proofs.refused.push_refusals.Given as goal
 

@@ -1,10 +1,7 @@
-use Rattle.std.proofs.Common.{◌∙◌, rules}
-use Rattle.std.proofs.lemmas.Iterator.Consumers.{YieldsList-at, YieldsList-from_filter, count_from_yields_List}
-use Rattle.std.proofs.lemmas.Iterator.Splits.{YieldsList-from_slice_split}
-use Rattle.std.proofs.lemmas.List.Sums.{length-filter}
+use Rattle.upd_edit.proofs.Common.{◌∙◌, rules, YieldsList-from_slice_split, is_feed, is_comment}
 use borrow.Author.Tests.{tests}
-use Rattle.upd_deck.specs.Reading.{is_feed}
-use Rattle.upd_text.specs.Lines.{is_comment}
+use Rattle.std.proofs.lemmas.Iterator.Consumers.{YieldsList-at, YieldsList-from_filter, count_from_yields_List}
+use Rattle.std.proofs.lemmas.List.Sums.{length-filter}
 use Rattle.upd_edit.specs.Warnings.{lines_of}
 use Rattle.upd_edit.proofs.warnings.comment_count.Goals as goal
 

@@ -1,9 +1,6 @@
-use Rattle.std.proofs.Common.{rules}
-use Rattle.std.proofs.lemmas.Iterator.Search.{position_from_yields_List}
-use Rattle.std.proofs.lemmas.Iterator.Splits.{YieldsList-from_slice_split}
+use Rattle.upd_edit.proofs.Common.{rules, YieldsList-from_slice_split, is_feed, is_comment}
 use borrow.Author.Tests.{tests}
-use Rattle.upd_deck.specs.Reading.{is_feed}
-use Rattle.upd_text.specs.Lines.{is_comment}
+use Rattle.std.proofs.lemmas.Iterator.Search.{position_from_yields_List}
 use Rattle.upd_edit.proofs.warnings.first_comment.Goals as goal
 
 pub returns-clause-first : goal.returns-clause-first

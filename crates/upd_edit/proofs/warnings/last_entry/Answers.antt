@@ -1,7 +1,7 @@
-use Rattle.std.proofs.Common.{◌∙◌, not, rules}
-use Rattle.std.proofs.lemmas.Iterator.Adapters.{YieldsList-from_rev_slice}
-use Rattle.std.proofs.lemmas.Iterator.Search.{find_from_yields_List}
+use Rattle.upd_edit.proofs.Common.{◌∙◌, rules, find_from_yields_List}
 use borrow.Author.Tests.{tests}
+use Rattle.std.proofs.Common.{not}
+use Rattle.std.proofs.lemmas.Iterator.Adapters.{YieldsList-from_rev_slice}
 use Rattle.upd_core.specs.Status.{is_taken}
 use Rattle.upd_edit.proofs.warnings.last_entry.Goals as goal
 

@@ -1,6 +1,5 @@
-use Rattle.std.proofs.Common.{◌∙◌, sym, ap, if◌then◌else◌, Some, None}
+use Rattle.upd_edit.proofs.Common.{◌∙◌, sym, ap, if◌then◌else◌, Some, None, name_of}
 use Rattle.std.specs.Option.{option_copied}
-use Rattle.upd_core.specs.Library.{name_of}
 use Rattle.upd_edit.proofs.WarningLemmas.{off_by_steps}
 use Rattle.upd_edit.proofs.warnings.off_by.Goals as goal
 

@@ -1,5 +1,4 @@
-use Rattle.std.proofs.Common.{◌≡◌, ◌++◌, drop}
-use Rattle.std.specs.List.{flat_map}
+use Rattle.upd_edit.proofs.Common.{◌≡◌, ◌++◌, drop, flat_map}
 use Rattle.upd_edit.specs.Warnings.{line_warnings}
 use Rattle.upd_edit.proofs.warnings.push_lines.Given as goal
 

@@ -1,6 +1,4 @@
-use Rattle.std.proofs.Common.{◌≡◌, ◌∷◌, ◌++◌, [], List, ℕ, ◌∙◌, codes, decimal}
-use Rattle.std.proofs.lemmas.Result.{on_ok_weaker}
-use Rattle.upd_edit.specs.WarningText.{warning}
+use Rattle.upd_edit.proofs.Common.{◌≡◌, ◌∷◌, ◌++◌, [], List, ℕ, ◌∙◌, codes, decimal, on_ok_weaker, warning}
 use Rattle.upd_edit.proofs.warnings.push_off_by.Goals as goal
 
 pub returns : goal.returns

@@ -1,4 +1,5 @@
-use Rattle.std.proofs.Common.{◌≤◌, ◌+◌, ◌-◌, vec_len}
+use Rattle.upd_examine.proofs.Common.{◌≤◌, ◌+◌, ◌-◌}
+use Rattle.std.proofs.Common.{vec_len}
 use Rattle.upd_examine.proofs.differing.add_differing.Given as goal
 
 abbrev pub invariant-loop-i : goal.invariant-loop-i

@@ -1,4 +1,4 @@
-use Rattle.std.proofs.Common.{length}
+use Rattle.upd_examine.proofs.Common.{length}
 use Rattle.upd_examine.proofs.FindingLemmas.{chained}
 use Rattle.upd_examine.proofs.examining.findings.Goals as goal
 

@@ -1,4 +1,4 @@
-use Rattle.std.proofs.Common.{◌≡◌, length, rules}
+use Rattle.upd_examine.proofs.Common.{◌≡◌, length, rules}
 use Rattle.upd_examine.proofs.FindingLemmas.{empty_where_true, some_where_false}
 use Rattle.upd_examine.proofs.examining.said.Goals as goal
 

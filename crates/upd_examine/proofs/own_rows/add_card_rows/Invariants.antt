@@ -1,5 +1,4 @@
-use Rattle.std.proofs.Common.{◌≡◌, ◌++◌, drop}
-use Rattle.upd_records.specs.Rows.{card_rows}
+use Rattle.upd_examine.proofs.Common.{◌≡◌, ◌++◌, drop, card_rows}
 use Rattle.upd_examine.proofs.own_rows.add_card_rows.Given as goal
 
 abbrev pub invariant-loop-i : goal.invariant-loop-i

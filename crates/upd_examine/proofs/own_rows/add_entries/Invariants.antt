@@ -1,7 +1,4 @@
-use Rattle.std.proofs.Common.{◌≡◌, ◌++◌, drop}
-use Rattle.std.specs.List.{flat_map}
-use Rattle.upd_core.specs.Library.{ref_of}
-use Rattle.upd_records.specs.Rows.{entry_rows}
+use Rattle.upd_examine.proofs.Common.{◌≡◌, ◌++◌, drop, flat_map, ref_of, entry_rows}
 use Rattle.upd_examine.proofs.own_rows.add_entries.Given as goal
 
 abbrev pub invariant-loop-card : goal.invariant-loop-card

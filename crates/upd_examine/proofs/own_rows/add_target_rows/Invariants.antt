@@ -1,5 +1,4 @@
-use Rattle.std.proofs.Common.{◌≡◌, ◌++◌, drop}
-use Rattle.upd_records.specs.Rows.{target_rows}
+use Rattle.upd_examine.proofs.Common.{◌≡◌, ◌++◌, drop, target_rows}
 use Rattle.upd_examine.proofs.own_rows.add_target_rows.Given as goal
 
 abbrev pub invariant-loop-i : goal.invariant-loop-i

@@ -1,6 +1,4 @@
-use Rattle.std.proofs.Common.{◌≡◌, ◌++◌, drop}
-use Rattle.std.specs.List.{flat_map}
-use Rattle.upd_records.specs.Rows.{card_rows}
+use Rattle.upd_examine.proofs.Common.{◌≡◌, ◌++◌, drop, flat_map, card_rows}
 use Rattle.upd_examine.proofs.own_rows.card_rows_of.Given as goal
 
 abbrev pub invariant-loop-deck : goal.invariant-loop-deck

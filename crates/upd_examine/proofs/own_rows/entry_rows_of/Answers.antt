@@ -1,9 +1,4 @@
-use Rattle.std.proofs.Common.{◌≡◌, ◌++◌, ◌∙◌, List}
-use Rattle.std.specs.List.{flat_map}
-use Rattle.upd_core.proofs.FlatLemmas.{flat_more}
-use Rattle.upd_core.specs.contracts.deck.Deck.{the_view}
-use Rattle.upd_core.specs.Library.{DeckView, ref_of}
-use Rattle.upd_records.specs.Rows.{EntryRow, entry_rows}
+use Rattle.upd_examine.proofs.Common.{◌≡◌, ◌++◌, ◌∙◌, List, flat_map, flat_more, the_view, DeckView, ref_of, EntryRow, entry_rows}
 use Rattle.upd_examine.proofs.own_rows.entry_rows_of.Goals as goal
 
 pub loop-deck-preserved : goal.loop-deck-preserved

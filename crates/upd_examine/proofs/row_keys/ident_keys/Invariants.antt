@@ -1,5 +1,4 @@
-use Rattle.std.proofs.Common.{◌≡◌, map, take}
-use Rattle.upd_examine.specs.RowKeys.{ident_key}
+use Rattle.upd_examine.proofs.Common.{◌≡◌, map, take, ident_key}
 use Rattle.upd_examine.proofs.row_keys.ident_keys.Given as goal
 
 abbrev pub invariant-loop-ident : goal.invariant-loop-ident

@@ -1,5 +1,4 @@
-use Rattle.std.proofs.Common.{◌≡◌, map, take}
-use Rattle.upd_examine.specs.RowKeys.{target_row_key}
+use Rattle.upd_examine.proofs.Common.{◌≡◌, map, take, target_row_key}
 use Rattle.upd_examine.proofs.row_keys.target_row_keys.Given as goal
 
 abbrev pub invariant-loop-row : goal.invariant-loop-row

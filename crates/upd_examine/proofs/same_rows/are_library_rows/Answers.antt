@@ -1,6 +1,4 @@
-use Rattle.std.proofs.Common.{sym, subst}
-use Rattle.std.specs.Prelude.{◌↔◌, IsTrue}
-use Rattle.upd_examine.specs.Findings.{AreLibraryRows}
+use Rattle.upd_examine.proofs.Common.{sym, subst, ◌↔◌, IsTrue, AreLibraryRows}
 use Rattle.upd_examine.proofs.RowsLemmas.{library_decided}
 use Rattle.upd_examine.proofs.same_rows.are_library_rows.Goals as goal
 

@@ -1,7 +1,4 @@
-use Rattle.std.proofs.Common.{sym, ◌∙◌, subst}
-use Rattle.std.specs.Prelude.{◌↔◌, IsTrue}
-use Rattle.upd_records.specs.Rows.{rows_of}
-use Rattle.upd_row_store.specs.Assembling.{AreRowsOf}
+use Rattle.upd_examine.proofs.Common.{sym, ◌∙◌, subst, ◌↔◌, IsTrue, rows_of, AreRowsOf}
 use Rattle.upd_examine.proofs.RowsLemmas.{of_lists, rows_decided}
 use Rattle.upd_examine.proofs.same_rows.are_rows_of.Goals as goal
 

@@ -1,6 +1,5 @@
-use Rattle.std.proofs.Common.{◌≡◌, ◌↔◌, true, sym, ap, ◌∙◌, subst}
-use Rattle.std.specs.Ordering.{is_eq}
-use Rattle.upd_records.specs.Rows.{IsSame}
+use Rattle.upd_examine.proofs.Common.{◌≡◌, true, sym, ap, ◌∙◌, subst, is_eq, IsSame}
+use Rattle.std.proofs.Common.{◌↔◌}
 use Rattle.upd_examine.proofs.SameLemmas.{same_decided}
 use Rattle.upd_examine.proofs.same_rows.are_same.Goals as goal
 

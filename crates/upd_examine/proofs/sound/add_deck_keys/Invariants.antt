@@ -1,7 +1,6 @@
-use Rattle.std.proofs.Common.{◌≡◌, ◌++◌, map, drop}
-use Rattle.std.specs.List.{flat_map}
-use Rattle.upd_core.specs.Sound.{key_of}
+use Rattle.upd_examine.proofs.Common.{◌≡◌, ◌++◌, map, drop, flat_map, key_of}
 use Rattle.upd_examine.proofs.sound.add_deck_keys.Given as goal
 
 abbrev pub invariant-loop-deck : goal.invariant-loop-deck
-invariant-loop-deck l = l.keys.items ++ map key_of (flat_map (λ d. d.cards) (drop l.deck-index l.decks)) ≡ l.fn.keys.items ++ map key_of (flat_map (λ d. d.cards) l.decks)
+invariant-loop-deck l = l.keys.items ++ map key_of (flat_map (λ d. d.cards) (drop l.deck-index l.decks)) ≡ l.fn.keys.items
+    ++ map key_of (flat_map (λ d. d.cards) l.decks)

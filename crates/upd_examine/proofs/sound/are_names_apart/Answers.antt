@@ -1,4 +1,4 @@
-use Rattle.std.proofs.lemmas.Map.Lookups.{exact_bytes}
+use Rattle.upd_examine.proofs.Common.{exact_bytes}
 use Rattle.upd_examine.proofs.sound.are_names_apart.Goals as goal
 
 pub are_apart-requires : goal.are_apart-requires

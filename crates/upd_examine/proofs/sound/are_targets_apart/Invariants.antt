@@ -1,7 +1,4 @@
-use Rattle.std.proofs.Common.{drop}
-use Rattle.std.specs.Prelude.{◌↔◌}
-use Rattle.std.specs.List.{AllByRecursion}
-use Rattle.upd_core.specs.Sound.{AreApart}
+use Rattle.upd_examine.proofs.Common.{drop, ◌↔◌, AllByRecursion, AreApart}
 use Rattle.upd_examine.proofs.sound.are_targets_apart.Given as goal
 
 abbrev pub invariant-loop-card : goal.invariant-loop-card

@@ -1,6 +1,4 @@
-use Rattle.std.proofs.Common.{sym, subst}
-use Rattle.std.specs.Prelude.{◌↔◌, IsTrue}
-use Rattle.upd_examine.specs.Whole.{IsDirectorySound}
+use Rattle.upd_examine.proofs.Common.{sym, subst, ◌↔◌, IsTrue, IsDirectorySound}
 use Rattle.upd_examine.proofs.WholeLemmas.{directory_decided}
 use Rattle.upd_examine.proofs.sound.is_directory_sound.Goals as goal
 

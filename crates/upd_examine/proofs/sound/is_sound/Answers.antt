@@ -1,7 +1,4 @@
-use Rattle.std.proofs.Common.{sym, subst}
-use Rattle.std.specs.Prelude.{◌↔◌, IsTrue}
-use Rattle.std.specs.List.{AllByRecursion}
-use Rattle.upd_core.specs.Sound.{AreApart, IsSound, IsWhole}
+use Rattle.upd_examine.proofs.Common.{sym, subst, ◌↔◌, IsTrue, AllByRecursion, AreApart, IsSound, IsWhole}
 use Rattle.upd_examine.proofs.WholeLemmas.{whole_decided}
 use Rattle.upd_examine.proofs.sound.is_sound.Goals as goal
 

@@ -1,6 +1,4 @@
-use Rattle.std.proofs.Common.{sym, subst}
-use Rattle.std.specs.Prelude.{◌↔◌, IsTrue}
-use Rattle.upd_examine.specs.Findings.{AreSoundRows}
+use Rattle.upd_examine.proofs.Common.{sym, subst, ◌↔◌, IsTrue, AreSoundRows}
 use Rattle.upd_examine.proofs.FindingLemmas.{sound_decided}
 use Rattle.upd_examine.proofs.sound_rows.are_sound_rows.Goals as goal
 

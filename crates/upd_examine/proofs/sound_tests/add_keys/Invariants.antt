@@ -1,5 +1,4 @@
-use Rattle.std.proofs.Common.{◌≡◌, ◌++◌, map, take}
-use Rattle.upd_core.specs.Sound.{key_of}
+use Rattle.upd_examine.proofs.Common.{◌≡◌, ◌++◌, map, take, key_of}
 use Rattle.upd_examine.proofs.sound_tests.add_keys.Given as goal
 
 abbrev pub invariant-loop-card : goal.invariant-loop-card

@@ -1,5 +1,4 @@
-use Rattle.std.proofs.Common.{◌≡◌, ◌+◌, drop}
-use Rattle.upd_examine.specs.SoundTests.{are_aged_from}
+use Rattle.upd_examine.proofs.Common.{◌≡◌, ◌+◌, drop, are_aged_from}
 use Rattle.upd_examine.proofs.sound_tests.are_aged.Given as goal
 
 abbrev pub invariant-loop-i : goal.invariant-loop-i

@@ -1,5 +1,4 @@
-use Rattle.std.proofs.Common.{◌≡◌, ℕ, ◌+◌, ◌-◌, ◌<◌, ◌≤◌, true, length, get_or, refl, sym, ap, ◌∙◌, arith, rules}
-use Rattle.std.specs.Ordering.{is_eq}
+use Rattle.upd_examine.proofs.Common.{◌≡◌, ℕ, ◌+◌, ◌-◌, ◌<◌, ◌≤◌, true, length, get_or, refl, sym, ap, ◌∙◌, arith, rules, is_eq}
 use Rattle.upd_examine.proofs.SortedLemmas.{apart_back, apart_moved, no_twins, sorted_apart}
 use Rattle.upd_examine.proofs.sound_tests.are_apart.Goals as goal
 

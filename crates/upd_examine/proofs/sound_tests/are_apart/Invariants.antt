@@ -1,5 +1,4 @@
-use Rattle.std.proofs.Common.{◌≡◌, ℕ, ◌+◌, ◌<◌, false, get_or}
-use Rattle.std.specs.Ordering.{is_eq}
+use Rattle.upd_examine.proofs.Common.{◌≡◌, ℕ, ◌+◌, ◌<◌, false, get_or, is_eq}
 use Rattle.upd_examine.proofs.sound_tests.are_apart.Given as goal
 
 abbrev pub invariant-loop-i : goal.invariant-loop-i

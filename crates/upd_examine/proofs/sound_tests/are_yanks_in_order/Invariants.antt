@@ -1,5 +1,4 @@
-use Rattle.std.proofs.Common.{◌≡◌, drop}
-use Rattle.upd_examine.specs.SoundTests.{are_yanks_from}
+use Rattle.upd_examine.proofs.Common.{◌≡◌, drop, are_yanks_from}
 use Rattle.upd_examine.proofs.sound_tests.are_yanks_in_order.Given as goal
 
 abbrev pub invariant-loop-card : goal.invariant-loop-card

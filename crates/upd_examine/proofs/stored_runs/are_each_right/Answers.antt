@@ -1,6 +1,4 @@
-use Rattle.std.proofs.Common.{◌+◌, ◌&&◌, drop, sym, ap, ◌∙◌}
-use Rattle.std.specs.List.{list_all}
-use Rattle.upd_examine.specs.RunForms.{is_run_right}
+use Rattle.upd_examine.proofs.Common.{◌+◌, ◌&&◌, drop, sym, ap, ◌∙◌, list_all, is_run_right}
 use Rattle.upd_examine.proofs.RunLemmas.{all_step}
 use Rattle.upd_examine.proofs.stored_runs.are_each_right.Goals as goal
 

@@ -1,6 +1,4 @@
-use Rattle.std.proofs.Common.{◌≡◌, drop}
-use Rattle.std.specs.List.{list_all}
-use Rattle.upd_examine.specs.RunForms.{is_run_right}
+use Rattle.upd_examine.proofs.Common.{◌≡◌, drop, list_all, is_run_right}
 use Rattle.upd_examine.proofs.stored_runs.are_each_right.Given as goal
 
 abbrev pub invariant-loop-run : goal.invariant-loop-run

@@ -1,8 +1,4 @@
-use Rattle.std.proofs.Common.{sym, subst, nat_cmp}
-use Rattle.std.specs.Prelude.{◌↔◌, IsTrue}
-use Rattle.std.specs.Cmp.Lexicographic.{slice_cmp}
-use Rattle.std.proofs.lemmas.Map.Lookups.{exact_bytes, exact_pairs, exact_unsigned}
-use Rattle.upd_examine.specs.RunForms.{AreRunsSound}
+use Rattle.upd_examine.proofs.Common.{sym, subst, nat_cmp, ◌↔◌, IsTrue, slice_cmp, exact_bytes, exact_pairs, exact_unsigned, AreRunsSound}
 use Rattle.upd_examine.proofs.RunLemmas.{runs_decided}
 use Rattle.upd_examine.proofs.stored_runs.are_runs_sound.Goals as goal
 
@@ -17,4 +13,5 @@ returns c =
     let runs = c.args.runs.now in
     let marks = c.args.marks.now in
     subst (λ r. IsTrue r ↔ AreRunsSound runs marks) (sym c.four_hold.ensures)
-    (runs_decided runs marks c.are_marks_right-marked.ensures c.in_ok-sites_of.ensures c.in_ok-run_keys.ensures c.are_apart-sites.ensures c.are_apart-keys.ensures c.in_ok-each.ensures)
+    (runs_decided runs marks c.are_marks_right-marked.ensures c.in_ok-sites_of.ensures c.in_ok-run_keys.ensures c.are_apart-sites.ensures
+    c.are_apart-keys.ensures c.in_ok-each.ensures)

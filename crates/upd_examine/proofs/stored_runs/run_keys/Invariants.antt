@@ -1,5 +1,4 @@
-use Rattle.std.proofs.Common.{◌≡◌, map, take}
-use Rattle.upd_examine.specs.RunForms.{run_key}
+use Rattle.upd_examine.proofs.Common.{◌≡◌, map, take, run_key}
 use Rattle.upd_examine.proofs.stored_runs.run_keys.Given as goal
 
 abbrev pub invariant-loop-run : goal.invariant-loop-run

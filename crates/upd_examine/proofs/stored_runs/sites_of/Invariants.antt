@@ -1,4 +1,4 @@
-use Rattle.std.proofs.Common.{◌≡◌, map, take}
+use Rattle.upd_examine.proofs.Common.{◌≡◌, map, take}
 use Rattle.upd_examine.proofs.stored_runs.sites_of.Given as goal
 
 abbrev pub invariant-loop-row : goal.invariant-loop-row

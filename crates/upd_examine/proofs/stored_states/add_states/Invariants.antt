@@ -1,5 +1,4 @@
-use Rattle.std.proofs.Common.{◌≡◌, ◌++◌, map, take}
-use Rattle.upd_examine.specs.StateTests.{own_state}
+use Rattle.upd_examine.proofs.Common.{◌≡◌, ◌++◌, map, take, own_state}
 use Rattle.upd_examine.proofs.stored_states.add_states.Given as goal
 
 abbrev pub invariant-loop-card : goal.invariant-loop-card

@@ -1,6 +1,4 @@
-use Rattle.std.proofs.Common.{sym, subst}
-use Rattle.std.specs.Prelude.{◌↔◌, IsTrue}
-use Rattle.upd_examine.specs.StateTests.{AreCounts}
+use Rattle.upd_examine.proofs.Common.{sym, subst, ◌↔◌, IsTrue, AreCounts}
 use Rattle.upd_examine.proofs.KeyLemmas.{exact_targets}
 use Rattle.upd_examine.proofs.StateTestLemmas.{counts_tested}
 use Rattle.upd_examine.proofs.stored_states.are_counts.Goals as goal

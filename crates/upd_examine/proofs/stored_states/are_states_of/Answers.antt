@@ -1,8 +1,4 @@
-use Rattle.std.proofs.Common.{sym, subst}
-use Rattle.std.specs.Prelude.{◌↔◌, IsTrue}
-use Rattle.upd_records.specs.Rows.{IsSame}
-use Rattle.upd_yank.specs.Right.{AreStatesOf}
-use Rattle.upd_examine.specs.StateTests.{AreCounts, own_states}
+use Rattle.upd_examine.proofs.Common.{sym, subst, ◌↔◌, IsTrue, IsSame, AreStatesOf, AreCounts, own_states}
 use Rattle.upd_examine.proofs.StateTestLemmas.{states_decided}
 use Rattle.upd_examine.proofs.stored_states.are_states_of.Goals as goal
 

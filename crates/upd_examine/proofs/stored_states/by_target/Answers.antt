@@ -1,10 +1,6 @@
-use Rattle.std.proofs.Common.{ℕ, if◌then◌else◌, take, get_or, ap, sym, ◌∙◌}
+use Rattle.upd_examine.proofs.Common.{ℕ, if◌then◌else◌, take, get_or, ap, sym, ◌∙◌, Target, Set, is_same, put_counts}
 use Rattle.std.proofs.lemmas.List.{take_more}
-use Rattle.upd_core.specs.declared.target.Target.{Target}
-use Rattle.upd_core.specs.declared.target.Target.TheVariants.{Set}
-use Rattle.upd_core.specs.Targets.{is_same}
 use Rattle.upd_yank.proofs.RowLemmas.{put_more}
-use Rattle.upd_yank.specs.Right.{put_counts}
 use Rattle.upd_examine.proofs.stored_states.by_target.Goals as goal
 
 pub loop-target-preserved : goal.loop-target-preserved

@@ -1,7 +1,4 @@
-use Rattle.std.proofs.Common.{◌≡◌, length, drop, ap, subst, arith, rules}
-use Rattle.sqlite_disk.specs.Disk.{Holds}
-use Rattle.upd_text.specs.declared.fault.Fault.{Fault}
-use Rattle.upd_row_store.specs.Keeping.{OfMemory, OfStore}
+use Rattle.upd_keep.proofs.Common.{◌≡◌, length, drop, ap, subst, arith, rules, Holds, Fault, OfMemory, OfStore}
 use Rattle.upd_keep.proofs.Copies.{filled}
 use Rattle.upd_keep.proofs.copying.bytes_of.Goals as goal
 

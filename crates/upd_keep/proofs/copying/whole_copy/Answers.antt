@@ -1,5 +1,4 @@
-use Rattle.std.proofs.Common.{inl, inr, sym, subst, ◌∙◌}
-use Rattle.sqlite.specs.Files.{file_state}
+use Rattle.upd_keep.proofs.Common.{inl, inr, sym, subst, ◌∙◌, file_state}
 use Rattle.sqlite_wal.specs.Reads.{AreClean}
 use Rattle.sqlite_wal.proofs.CleanLemmas.{halves}
 use Rattle.upd_keep.specs.Copying.{IsWholeCopy}

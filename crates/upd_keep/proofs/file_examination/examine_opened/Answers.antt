@@ -1,10 +1,4 @@
-use Rattle.std.proofs.Common.{◌≡◌, sym, ap, subst, IsTrue}
-use Rattle.sqlite.specs.Held.{Held, state}
-use Rattle.sqlite.specs.State.{HasCleanDisk}
-use Rattle.upd_text.specs.declared.fault.Fault.{Fault}
-use Rattle.upd_row_store.specs.Keeping.{OfMemory}
-use Rattle.upd_sql.specs.Schema.{library_schema}
-use Rattle.upd_sqlite.proofs.Chains.{clean_before}
+use Rattle.upd_keep.proofs.Common.{◌≡◌, sym, ap, subst, IsTrue, Held, state, HasCleanDisk, Fault, OfMemory, library_schema, clean_before}
 use Rattle.upd_keep.proofs.file_examination.examine_opened.Goals as goal
 
 pub returns-in-Ok-examine_tables-clause-said : goal.returns-in-Ok-examine_tables-clause-said
@@ -30,4 +24,5 @@ pub returns-in-NoMemory-clause-said : goal.returns-in-NoMemory-clause-said
 returns-in-NoMemory-clause-said g c = OfMemory _ (ap (λ (f : Fault). f.kind) c.without_line.ensures) (ap (λ (f : Fault). f.at) c.without_line.ensures)
 
 pub returns-in-NoMemory-kind-clause-said : goal.returns-in-NoMemory-kind-clause-said
-returns-in-NoMemory-kind-clause-said g c = OfMemory _ (ap (λ (f : Fault). f.kind) c.without_line-in-NoMemory-kind.ensures) (ap (λ (f : Fault). f.at) c.without_line-in-NoMemory-kind.ensures)
+returns-in-NoMemory-kind-clause-said g c =
+    OfMemory _ (ap (λ (f : Fault). f.kind) c.without_line-in-NoMemory-kind.ensures) (ap (λ (f : Fault). f.at) c.without_line-in-NoMemory-kind.ensures)

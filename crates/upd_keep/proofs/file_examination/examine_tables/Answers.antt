@@ -1,8 +1,4 @@
-use Rattle.std.proofs.Common.{refl, ap}
-use Rattle.sqlite.specs.Held.{state}
-use Rattle.upd_text.specs.declared.fault.Fault.{Fault}
-use Rattle.upd_row_store.specs.Keeping.{OfMemory, OfStore}
-use Rattle.upd_sql.proofs.Typed.{survives_itself}
+use Rattle.upd_keep.proofs.Common.{refl, ap, state, Fault, OfMemory, OfStore, survives_itself}
 use Rattle.upd_keep.proofs.file_examination.examine_tables.Goals as goal
 
 pub returns-then-not-is_autocommit-clause-examines : goal.returns-then-not-is_autocommit-clause-examines

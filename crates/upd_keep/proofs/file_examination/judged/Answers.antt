@@ -1,9 +1,7 @@
-use Rattle.std.proofs.Common.{◌≡◌, ◌<◌, length, refl, ◌∙◌, subst, arith, rules}
+use Rattle.upd_keep.proofs.Common.{◌≡◌, ◌<◌, length, refl, ◌∙◌, subst, arith, rules, nat_tests, count_by, reply_bytes}
 use Rattle.std.specs.Prelude.{◌↔◌}
-use Rattle.std.proofs.lemmas.Bool.Decides.{nat_tests}
-use Rattle.std.specs.List.{count_by}
 use Rattle.upd_examine.specs.Findings.{AreSoundRows}
-use Rattle.upd_keep.specs.Examining.{is_held_deck, reply_bytes}
+use Rattle.upd_keep.specs.Examining.{is_held_deck}
 use Rattle.upd_keep.proofs.SameLength.{same_length}
 use Rattle.upd_keep.proofs.file_examination.judged.Goals as goal
 

@@ -1,7 +1,6 @@
-use Rattle.std.proofs.Common.{◌≡◌, drop, length}
+use Rattle.upd_keep.proofs.Common.{◌≡◌, drop, length, reply_bytes}
 use Rattle.std.specs.List.{fold}
 use Rattle.upd_views.specs.SiteLines.{both}
-use Rattle.upd_keep.specs.Examining.{reply_bytes}
 use Rattle.upd_keep.proofs.file_examination.reply_bytes.Given as goal
 
 abbrev pub invariant-loop-run : goal.invariant-loop-run

@@ -1,7 +1,4 @@
-use Rattle.std.proofs.Common.{rules}
-use Rattle.std.specs.Result.{IsOkUnless}
-use Rattle.upd_text.specs.Faults.{fault_at}
-use Rattle.upd_text.specs.declared.fault.FaultKind.TheVariants.{NoMemory}
+use Rattle.upd_keep.proofs.Common.{rules, IsOkUnless, fault_at, NoMemory}
 use Rattle.upd_keep.proofs.ReplayLemmas.{memory_lost}
 use Rattle.upd_keep.proofs.other_tables.other_table.Goals as goal
 

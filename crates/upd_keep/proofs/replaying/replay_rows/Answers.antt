@@ -1,11 +1,7 @@
-use Rattle.std.proofs.Common.{◌≡◌, ◌<◌, [], inl, inr, length, None, refl, ap, ◌∙◌, arith, rules}
-use Rattle.std.proofs.lemmas.Bool.Decides.{nat_tests}
-use Rattle.std.specs.Result.{IsOkUnless}
-use Rattle.upd_text.specs.Faults.{fault_at}
-use Rattle.upd_text.specs.declared.fault.FaultKind.TheVariants.{NoMemory}
-use Rattle.upd_sql.specs.Making.{no_rows}
+use Rattle.upd_keep.proofs.Common.{◌≡◌, ◌<◌, [], inl, inr, length, None, refl, ap, ◌∙◌, arith, rules, nat_tests, IsOkUnless, fault_at, NoMemory, no_rows}
+use Rattle.upd_keep.proofs.Common.{journal_with}
 use Rattle.upd_desk.specs.Journal.{library_after}
-use Rattle.upd_keep.specs.Replaying.{journal_with, replayed_line}
+use Rattle.upd_keep.specs.Replaying.{replayed_line}
 use Rattle.upd_keep.proofs.ReplayLemmas.{empty_holds, memory_lost, none_wanted, same_library, same_states, some_wanted}
 use Rattle.upd_keep.proofs.replaying.replay_rows.Goals as goal
 
@@ -16,10 +12,12 @@ pub returns-in_err-run_line-clause-lost : goal.returns-in_err-run_line-clause-lo
 returns-in_err-run_line-clause-lost c = let e : IsOkUnless c.from_residual-in_err-run_line.result (fault_at NoMemory 0) = search rules in memory_lost _ e
 
 pub returns-in_err-table_line-in-Some-2-clause-lost : goal.returns-in_err-table_line-in-Some-2-clause-lost
-returns-in_err-table_line-in-Some-2-clause-lost c = let e : IsOkUnless c.from_residual-in_err-table_line-in-Some-2.result (fault_at NoMemory 0) = search rules in memory_lost _ e
+returns-in_err-table_line-in-Some-2-clause-lost c = let e : IsOkUnless c.from_residual-in_err-table_line-in-Some-2.result (fault_at NoMemory 0) =
+    search rules in memory_lost _ e
 
 pub returns-in_err-replayed_line-in-None-clause-lost : goal.returns-in_err-replayed_line-in-None-clause-lost
-returns-in_err-replayed_line-in-None-clause-lost c = let e : IsOkUnless c.from_residual-in_err-replayed_line-in-None.result (fault_at NoMemory 0) = search rules in memory_lost _ e
+returns-in_err-replayed_line-in-None-clause-lost c = let e : IsOkUnless c.from_residual-in_err-replayed_line-in-None.result (fault_at NoMemory 0) =
+    search rules in memory_lost _ e
 
 pub returns-then-not-is_empty-clause-said : goal.returns-then-not-is_empty-clause-said
 returns-then-not-is_empty-clause-said c = λ it h.

@@ -1,7 +1,4 @@
-use Rattle.std.proofs.Common.{refl}
-use Rattle.sqlite.specs.Held.{state}
-use Rattle.upd_row_store.specs.Keeping.{OfStore}
-use Rattle.upd_sql.proofs.Typed.{survives_itself}
+use Rattle.upd_keep.proofs.Common.{refl, state, OfStore, survives_itself}
 use Rattle.upd_keep.proofs.replaying.replay_tables.Goals as goal
 
 pub returns-then-not-is_autocommit-clause-replays : goal.returns-then-not-is_autocommit-clause-replays

@@ -1,8 +1,4 @@
-use Rattle.std.proofs.Common.{◌≡◌, rules}
-use Rattle.sqlite.specs.Held.{state}
-use Rattle.upd_sql.specs.Listed.{AreInOrder, by_site}
-use Rattle.upd_sql.proofs.WholeLemmas.{looks_more}
-use Rattle.upd_keep.specs.Replaying.{AreInTurn}
+use Rattle.upd_keep.proofs.Common.{◌≡◌, rules, state, AreInOrder, by_site, looks_more, AreInTurn}
 use Rattle.upd_keep.proofs.run_history.history_in.Goals as goal
 
 pub returns : goal.returns

@@ -1,8 +1,4 @@
-use Rattle.std.proofs.Common.{◌≡◌, sym, subst, rules}
-use Rattle.sqlite.specs.Held.{state}
-use Rattle.sqlite.specs.State.{HasCleanDisk}
-use Rattle.upd_sqlite.proofs.Chains.{clean_before}
-use Rattle.upd_keep.specs.Replaying.{AreInTurn}
+use Rattle.upd_keep.proofs.Common.{◌≡◌, sym, subst, rules, state, HasCleanDisk, clean_before, AreInTurn}
 use Rattle.upd_keep.proofs.Listing.{found_outside}
 use Rattle.upd_keep.proofs.run_history.stored_history.Goals as goal
 

@@ -1,4 +1,4 @@
-use Rattle.upd_row_store.specs.Keeping.{OfStore}
+use Rattle.upd_keep.proofs.Common.{OfStore}
 use Rattle.upd_keep.proofs.run_reads.kept.Goals as goal
 
 pub returns-then-not-is_autocommit-clause-lost : goal.returns-then-not-is_autocommit-clause-lost

@@ -1,8 +1,5 @@
-use Rattle.std.proofs.Common.{rules}
-use Rattle.sqlite.specs.Held.{state}
-use Rattle.upd_sql.specs.Listed.{AreInOrder, by_key, by_site}
-use Rattle.upd_sql.proofs.WholeLemmas.{looks_more}
-use Rattle.upd_keep.specs.Keeping.{AreKept}
+use Rattle.upd_keep.proofs.Common.{rules, state, AreInOrder, by_site, looks_more, AreKept}
+use Rattle.upd_sql.specs.Listed.{by_key}
 use Rattle.upd_keep.proofs.run_reads.kept_in.Goals as goal
 
 pub returns : goal.returns

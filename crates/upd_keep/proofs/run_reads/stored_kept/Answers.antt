@@ -1,8 +1,4 @@
-use Rattle.std.proofs.Common.{◌≡◌, sym, subst, rules}
-use Rattle.sqlite.specs.Held.{state}
-use Rattle.sqlite.specs.State.{HasCleanDisk}
-use Rattle.upd_sqlite.proofs.Chains.{clean_before}
-use Rattle.upd_keep.specs.Keeping.{AreKept}
+use Rattle.upd_keep.proofs.Common.{◌≡◌, sym, subst, rules, state, HasCleanDisk, clean_before, AreKept}
 use Rattle.upd_keep.proofs.Listing.{found_outside}
 use Rattle.upd_keep.proofs.run_reads.stored_kept.Goals as goal
 

@@ -1,6 +1,5 @@
-use Rattle.std.proofs.Common.{◌≡◌, ◌+◌, ◌∷◌, ◌++◌, [], drop, take, sym, ap, subst, ◌∙◌, false, true}
+use Rattle.upd_keep.proofs.Common.{◌≡◌, ◌+◌, ◌∷◌, ◌++◌, [], drop, take, sym, ap, subst, ◌∙◌, false, true, journal_with}
 use Rattle.std.proofs.lemmas.List.{take_all, take_more}
-use Rattle.upd_keep.specs.Replaying.{journal_with}
 use Rattle.upd_keep.proofs.ReplayLemmas.{HandsIn, hands_more, split_at}
 use Rattle.upd_keep.proofs.stored_replies.first_parting.Goals as goal
 

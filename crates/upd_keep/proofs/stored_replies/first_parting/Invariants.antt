@@ -1,4 +1,4 @@
-use Rattle.std.proofs.Common.{take}
+use Rattle.upd_keep.proofs.Common.{take}
 use Rattle.upd_keep.proofs.ReplayLemmas.{HandsIn}
 use Rattle.upd_keep.proofs.stored_replies.first_parting.Given as goal
 

@@ -1,9 +1,6 @@
-use Rattle.std.proofs.Common.{◌≡◌, ◌∷◌, subst, rules}
-use Rattle.upd_text.specs.declared.fault.FaultKind.TheVariants.{NoMemory, Store}
-use Rattle.upd_desk.specs.Arrivals.{ArrivalView, arrival_view}
+use Rattle.upd_keep.proofs.Common.{◌≡◌, ◌∷◌, subst, rules, NoMemory, Store, ArrivalView, Came, arrival_of}
+use Rattle.upd_desk.specs.Arrivals.{arrival_view}
 use Rattle.upd_desk.specs.Holding.{HoldsIn}
-use Rattle.upd_desk.specs.Journal.{Came}
-use Rattle.upd_keep.specs.Replaying.{arrival_of}
 use Rattle.upd_keep.proofs.ReplayLemmas.{fault_decided}
 use Rattle.upd_keep.proofs.stored_replies.is_answered_as_stored.Goals as goal
 

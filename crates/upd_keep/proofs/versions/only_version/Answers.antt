@@ -1,6 +1,4 @@
-use Rattle.std.proofs.Common.{rules}
-use Rattle.sqlite.specs.Held.{state}
-use Rattle.sqlite.specs.State.{HasCleanDisk}
+use Rattle.upd_keep.proofs.Common.{rules, state, HasCleanDisk}
 use Rattle.upd_keep.proofs.VersionRows.{one_outside}
 use Rattle.upd_keep.proofs.versions.only_version.Goals as goal
 

@@ -1,5 +1,4 @@
-use Rattle.std.proofs.Common.{◌≡◌, length, rules}
-use Rattle.sqlite.specs.Held.{state}
+use Rattle.upd_keep.proofs.Common.{◌≡◌, length, rules, state}
 use Rattle.upd_keep.proofs.VersionRows.{one_answered}
 use Rattle.upd_keep.proofs.versions.only_version_in.Goals as goal
 

@@ -1,10 +1,5 @@
-use Rattle.std.proofs.Common.{List, arith}
-use Rattle.std.proofs.lemmas.Result.{IfOk-at_ok}
-use Rattle.upd_core.specs.Edits.{next_age, purged_back}
-use Rattle.upd_core.specs.Library.{LibraryView}
-use Rattle.upd_core.specs.Sound.{IsSound}
-use Rattle.upd_deck.specs.Items.{LineView}
-use Rattle.upd_laws.specs.PurgingBack.{IsAgain, LeadWithoutPurge}
+use Rattle.upd_laws.proofs.Common.{List, arith, IfOk-at_ok, next_age, purged_back, LibraryView, IsSound, LineView, IsAgain}
+use Rattle.upd_laws.specs.PurgingBack.{LeadWithoutPurge}
 use Rattle.upd_laws.proofs.BackLibraryLemmas.{Grows}
 use Rattle.upd_laws.proofs.BackOldLemmas.{old_library}
 use Rattle.upd_laws.proofs.BackStepLemmas.{all_applied_grows}

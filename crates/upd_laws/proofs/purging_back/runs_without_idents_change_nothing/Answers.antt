@@ -1,5 +1,4 @@
-use Rattle.std.proofs.Common.{◌+◌, length, arith}
-use Rattle.std.proofs.lemmas.Result.{IfOk-at_ok}
+use Rattle.upd_laws.proofs.Common.{◌+◌, length, arith, IfOk-at_ok}
 use Rattle.upd_laws.proofs.BackLibraryLemmas.{Grows}
 use Rattle.upd_laws.proofs.BackStepLemmas.{all_applied_grows}
 use Rattle.upd_laws.proofs.BackAgainLemmas.{same_library}

@@ -1,4 +1,4 @@
-use Rattle.upd_core.specs.Library.{empty}
+use Rattle.upd_laws.proofs.Common.{empty}
 use Rattle.upd_laws.proofs.ReadRunLemmas.{run_made, runs_made, empty_made, made_purged}
 use Rattle.upd_laws.proofs.read_runs.read_runs_bring_cards_of_lines.Goals as goal
 

@@ -1,7 +1,5 @@
 use Rattle.upd_laws.proofs.soundness.reached_libraries_are_sound.Goals as goal
-use Rattle.upd_core.specs.Library.{empty}
-use Rattle.upd_laws.specs.Soundness.{after_runs}
-use Rattle.upd_core.specs.Sound.{IsSound}
+use Rattle.upd_laws.proofs.Common.{empty, after_runs, IsSound}
 use Rattle.upd_laws.proofs.SoundRunLemmas.{empty_sound, runs_sound}
 
 pub returns-clause-empty : goal.returns-clause-empty

@@ -1,5 +1,4 @@
-use Rattle.std.proofs.Common.{refl}
-use Rattle.upd_core.specs.Library.{empty}
+use Rattle.upd_laws.proofs.Common.{refl, empty}
 use Rattle.upd_laws.proofs.SoundLimitLemmas.{purged_within}
 use Rattle.upd_laws.proofs.SoundRunLemmas.{run_within, runs_within}
 use Rattle.upd_laws.proofs.soundness.reached_libraries_are_within_limits.Goals as goal

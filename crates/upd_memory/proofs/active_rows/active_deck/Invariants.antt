@@ -1,8 +1,4 @@
-use Rattle.std.proofs.Common.{◌≡◌, [], List, drop, map}
-use Rattle.upd_core.specs.declared.ident.Ident.{Ident}
-use Rattle.upd_row_store.specs.Assembling.{AreAgesOf}
-use Rattle.upd_memory.specs.ActiveRows.{AreInOrder, with_rows}
-use Rattle.upd_memory.specs.Mirrored.{state_row}
+use Rattle.upd_memory.proofs.Common.{◌≡◌, [], List, drop, map, Ident, AreAgesOf, AreInOrder, with_rows, state_row}
 use Rattle.upd_memory.proofs.active_rows.active_deck.Given as goal
 
 abbrev pub invariant-loop-row : goal.invariant-loop-row

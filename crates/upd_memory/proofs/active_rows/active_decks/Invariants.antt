@@ -1,8 +1,4 @@
-use Rattle.std.proofs.Common.{◌≡◌, ◌++◌, List, map}
-use Rattle.upd_core.specs.declared.ident.Ident.{Ident}
-use Rattle.upd_row_store.specs.Assembling.{AreAgesOf}
-use Rattle.upd_memory.specs.ActiveRows.{AreInOrder, shown_decks}
-use Rattle.upd_memory.specs.Mirrored.{state_row}
+use Rattle.upd_memory.proofs.Common.{◌≡◌, ◌++◌, List, map, Ident, AreAgesOf, AreInOrder, shown_decks, state_row}
 use Rattle.upd_memory.proofs.active_rows.active_decks.Given as goal
 
 abbrev pub invariant-loop-age : goal.invariant-loop-age

@@ -1,6 +1,4 @@
-use Rattle.std.proofs.Common.{◌≡◌}
-use Rattle.std.specs.List.{list_all}
-use Rattle.upd_memory.specs.ActiveRows.{rise_from}
+use Rattle.upd_memory.proofs.Common.{◌≡◌, list_all, rise_from}
 use Rattle.upd_memory.proofs.active_rows.all_by_place.Given as goal
 
 abbrev pub invariant-loop-rows : goal.invariant-loop-rows

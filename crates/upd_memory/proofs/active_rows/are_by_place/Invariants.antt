@@ -1,5 +1,4 @@
-use Rattle.std.proofs.Common.{◌≡◌, drop}
-use Rattle.upd_memory.specs.ActiveRows.{rise_from}
+use Rattle.upd_memory.proofs.Common.{◌≡◌, drop, rise_from}
 use Rattle.upd_memory.proofs.active_rows.are_by_place.Given as goal
 
 abbrev pub invariant-loop-row : goal.invariant-loop-row

@@ -1,6 +1,4 @@
-use Rattle.std.proofs.Common.{◌∙◌, subst, sym}
-use Rattle.std.specs.declared.ops.Bound.TheVariants.{Included, Unbounded}
-use Rattle.upd_memory.specs.Walk.{AreFound}
+use Rattle.upd_memory.proofs.Common.{◌∙◌, subst, sym, Included, Unbounded, AreFound}
 use Rattle.upd_memory.proofs.WalkLemmas.{found_later, range_first, range_found}
 use Rattle.upd_memory.proofs.card_walk.next_value.Goals as goal
 

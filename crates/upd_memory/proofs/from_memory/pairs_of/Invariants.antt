@@ -1,4 +1,4 @@
-use Rattle.std.proofs.Common.{◌≡◌, ◌++◌}
+use Rattle.upd_memory.proofs.Common.{◌≡◌, ◌++◌}
 use Rattle.upd_memory.proofs.from_memory.pairs_of.Given as goal
 
 abbrev pub invariant-loop-card : goal.invariant-loop-card

@@ -1,7 +1,4 @@
-use Rattle.std.proofs.Common.{Bool, not, rules}
-use Rattle.std.proofs.lemmas.Fn.{filter_same}
-use Rattle.upd_core.specs.Targets.{is_same}
-use Rattle.upd_records.specs.Rows.{CountRow}
+use Rattle.upd_memory.proofs.Common.{Bool, not, rules, filter_same, is_same, CountRow}
 use Rattle.upd_memory.proofs.list_changes.drop_count.Goals as goal
 
 pub returns : goal.returns

@@ -1,6 +1,4 @@
-use Rattle.std.proofs.Common.{Bool, not, rules}
-use Rattle.std.proofs.lemmas.Fn.{filter_same}
-use Rattle.upd_records.specs.Rows.{EntryRow, same_ref}
+use Rattle.upd_memory.proofs.Common.{Bool, not, rules, filter_same, EntryRow, same_ref}
 use Rattle.upd_memory.proofs.list_changes.drop_entries.Goals as goal
 
 pub returns : goal.returns

@@ -1,6 +1,4 @@
-use Rattle.std.proofs.Common.{Bool, not, rules}
-use Rattle.std.proofs.lemmas.Fn.{filter_same}
-use Rattle.upd_records.specs.Rows.{StateRow, same_ref}
+use Rattle.upd_memory.proofs.Common.{Bool, not, rules, filter_same, StateRow, same_ref}
 use Rattle.upd_memory.proofs.list_changes.drop_state.Goals as goal
 
 pub returns : goal.returns

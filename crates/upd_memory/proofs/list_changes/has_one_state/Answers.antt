@@ -1,8 +1,6 @@
-use Rattle.std.proofs.Common.{◌≡◌, ℕ, ◌==◌, ap, sym, ◌∙◌, arith}
-use Rattle.std.proofs.lemmas.Bool.Decides.{nat_tests}
+use Rattle.upd_memory.proofs.Common.{◌≡◌, ℕ, ◌==◌, ap, sym, ◌∙◌, arith, nat_tests, StateRow, same_ref}
 use Rattle.std.proofs.lemmas.List.Sums.{length-filter}
 use Rattle.upd_core.specs.Counts.{capped}
-use Rattle.upd_records.specs.Rows.{StateRow, same_ref}
 use Rattle.upd_memory.proofs.list_changes.has_one_state.Goals as goal
 
 one_capped : (n : ℕ) → (capped n == 1) ≡ (n == 1)

@@ -1,6 +1,4 @@
-use Rattle.std.proofs.Common.{refl}
-use Rattle.upd_core.proofs.InPlaceLemmas.{map_over_more}
-use Rattle.upd_records.specs.Changes.{restated}
+use Rattle.upd_memory.proofs.Common.{refl, map_over_more, restated}
 use Rattle.upd_memory.proofs.list_changes.restate_card.Goals as goal
 
 pub loop-row-preserved : goal.loop-row-preserved

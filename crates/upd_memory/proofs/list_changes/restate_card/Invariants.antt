@@ -1,5 +1,4 @@
-use Rattle.std.proofs.Common.{◌≡◌, map, take, drop, ◌++◌}
-use Rattle.upd_records.specs.Changes.{restated}
+use Rattle.upd_memory.proofs.Common.{◌≡◌, map, take, drop, ◌++◌, restated}
 use Rattle.upd_memory.proofs.list_changes.restate_card.Given as goal
 
 abbrev pub invariant-loop-row : goal.invariant-loop-row

@@ -1,4 +1,4 @@
-use Rattle.std.proofs.Common.{◌≡◌, take}
+use Rattle.upd_memory.proofs.Common.{◌≡◌, take}
 use Rattle.upd_memory.proofs.list_tables.copy_marks.Given as goal
 
 abbrev pub invariant-loop-mark : goal.invariant-loop-mark

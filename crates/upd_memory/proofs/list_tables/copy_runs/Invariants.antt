@@ -1,4 +1,4 @@
-use Rattle.std.proofs.Common.{◌≡◌, take}
+use Rattle.upd_memory.proofs.Common.{◌≡◌, take}
 use Rattle.upd_memory.proofs.list_tables.copy_runs.Given as goal
 
 abbrev pub invariant-loop-run : goal.invariant-loop-run

@@ -1,7 +1,5 @@
-use Rattle.std.proofs.Common.{Bool, not, rules}
-use Rattle.std.proofs.lemmas.Fn.{filter_same}
+use Rattle.upd_memory.proofs.Common.{Bool, not, rules, filter_same, is_mark_of}
 use Rattle.upd_records.specs.Rows.{MarkRow}
-use Rattle.upd_row_store.specs.Tables.{is_mark_of}
 use Rattle.upd_memory.proofs.list_tables.drop_marks.Goals as goal
 
 pub returns-clause-rest : goal.returns-clause-rest

@@ -1,5 +1,4 @@
-use Rattle.std.proofs.Common.{Bool, not, rules}
-use Rattle.std.proofs.lemmas.Fn.{filter_same}
+use Rattle.upd_memory.proofs.Common.{Bool, not, rules, filter_same}
 use Rattle.upd_records.specs.Rows.{RunView}
 use Rattle.upd_row_store.specs.Tables.{is_settled}
 use Rattle.upd_memory.proofs.list_tables.drop_runs.Goals as goal

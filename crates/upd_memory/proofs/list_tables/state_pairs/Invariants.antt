@@ -1,5 +1,4 @@
-use Rattle.std.proofs.Common.{◌≡◌, map, take}
-use Rattle.upd_row_store.specs.Tables.{state_pair}
+use Rattle.upd_memory.proofs.Common.{◌≡◌, map, take, state_pair}
 use Rattle.upd_memory.proofs.list_tables.state_pairs.Given as goal
 
 abbrev pub invariant-loop-row : goal.invariant-loop-row

@@ -1,8 +1,4 @@
-use Rattle.std.proofs.Common.{[], refl, subst, map, sym}
-use Rattle.upd_records.proofs.CountLemmas.{same_of}
-use Rattle.upd_records.specs.Rows.{IsSame}
-use Rattle.upd_row_store.specs.Tables.{count_pair}
-use Rattle.upd_memory.specs.Mirrored.{state_row}
+use Rattle.upd_memory.proofs.Common.{[], refl, subst, map, sym, same_of, IsSame, count_pair, state_row}
 use Rattle.upd_memory.proofs.MirrorLemmas.{agrees_same}
 use Rattle.upd_memory.proofs.StatusRowLemmas.{states_read}
 use Rattle.upd_memory.proofs.made.of_rows.Goals as goal

@@ -1,5 +1,4 @@
-use Rattle.std.proofs.Common.{arith}
-use Rattle.std.proofs.lemmas.Grind.{common_steps}
+use Rattle.upd_memory.proofs.Common.{arith, common_steps}
 use Rattle.upd_memory.proofs.MovedIdentLemmas.{card_put}
 use Rattle.upd_memory.proofs.moved_idents.list_card.Goals.{in_default-via-in-None-1, in_default-via-in-Some+else-least-card}
 use Rattle.upd_memory.proofs.moved_idents.list_card.Goals as goal

@@ -1,9 +1,4 @@
-use Rattle.std.proofs.Common.{◌≡◌, nat_le, take}
-use Rattle.std.specs.Prelude.{◌&&◌, ◌||◌}
-use Rattle.std.specs.List.{list_any}
-use Rattle.upd_text.specs.declared.card_ref.CardRef.{CardRef}
-use Rattle.upd_row_store.specs.Movable.{is_listed}
-use Rattle.upd_memory.specs.MovedIdents.{is_from}
+use Rattle.upd_memory.proofs.Common.{◌≡◌, nat_le, take, ◌&&◌, ◌||◌, list_any, CardRef, is_listed, is_from}
 use Rattle.upd_memory.proofs.moved_idents.list_cards.Given as goal
 
 abbrev pub invariant-loop-row : goal.invariant-loop-row

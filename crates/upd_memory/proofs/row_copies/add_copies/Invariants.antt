@@ -1,4 +1,4 @@
-use Rattle.std.proofs.Common.{◌≡◌, ◌++◌, take}
+use Rattle.upd_memory.proofs.Common.{◌≡◌, ◌++◌, take}
 use Rattle.upd_memory.proofs.row_copies.add_copies.Given as goal
 
 abbrev pub invariant-loop-card : goal.invariant-loop-card

@@ -1,5 +1,4 @@
-use Rattle.std.proofs.Common.{◌≡◌, ◌++◌}
-use Rattle.std.specs.List.{flat_map}
+use Rattle.upd_memory.proofs.Common.{◌≡◌, ◌++◌, flat_map}
 use Rattle.upd_memory.proofs.row_copies.all_entries.Given as goal
 
 abbrev pub invariant-loop-own : goal.invariant-loop-own

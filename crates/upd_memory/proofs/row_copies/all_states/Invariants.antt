@@ -1,5 +1,4 @@
-use Rattle.std.proofs.Common.{◌≡◌, ◌++◌, map}
-use Rattle.upd_memory.specs.Mirrored.{state_row}
+use Rattle.upd_memory.proofs.Common.{◌≡◌, ◌++◌, map, state_row}
 use Rattle.upd_memory.proofs.row_copies.all_states.Given as goal
 
 abbrev pub invariant-loop-card : goal.invariant-loop-card

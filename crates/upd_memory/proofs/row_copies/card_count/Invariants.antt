@@ -1,5 +1,4 @@
-use Rattle.std.proofs.Common.{◌≡◌, ◌+◌, length}
-use Rattle.std.specs.List.{flat_map}
+use Rattle.upd_memory.proofs.Common.{◌≡◌, ◌+◌, length, flat_map}
 use Rattle.upd_memory.proofs.row_copies.card_count.Given as goal
 
 abbrev pub invariant-loop-cards : goal.invariant-loop-cards

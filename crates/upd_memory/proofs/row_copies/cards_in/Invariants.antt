@@ -1,4 +1,4 @@
-use Rattle.std.proofs.Common.{◌≡◌, map, take}
+use Rattle.upd_memory.proofs.Common.{◌≡◌, map, take}
 use Rattle.upd_memory.proofs.row_copies.cards_in.Given as goal
 
 abbrev pub invariant-loop-row : goal.invariant-loop-row

@@ -1,6 +1,4 @@
-use Rattle.std.proofs.Common.{◌≡◌, ◌++◌, [], if◌then◌else◌}
-use Rattle.std.specs.List.{flat_map}
-use Rattle.upd_row_store.specs.PartRows.{is_loaded}
+use Rattle.upd_memory.proofs.Common.{◌≡◌, ◌++◌, [], if◌then◌else◌, flat_map, is_loaded}
 use Rattle.upd_memory.proofs.row_copies.cards_of.Given as goal
 
 abbrev pub invariant-loop-age : goal.invariant-loop-age

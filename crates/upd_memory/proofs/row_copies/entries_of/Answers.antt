@@ -1,5 +1,4 @@
-use Rattle.std.proofs.Common.{rules}
-use Rattle.std.specs.declared.ops.Bound.TheVariants.{Unbounded}
+use Rattle.upd_memory.proofs.Common.{rules, Unbounded}
 use Rattle.upd_memory.proofs.WalkLemmas.{range_found}
 use Rattle.upd_memory.proofs.row_copies.entries_of.Goals as goal
 

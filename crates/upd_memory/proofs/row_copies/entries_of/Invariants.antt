@@ -1,7 +1,4 @@
-use Rattle.std.proofs.Common.{◌≡◌, take}
-use Rattle.std.specs.List.{flat_map}
-use Rattle.upd_memory.specs.RowsByKey.{entries_at}
-use Rattle.upd_memory.specs.Walk.{AreFound}
+use Rattle.upd_memory.proofs.Common.{◌≡◌, take, flat_map, entries_at, AreFound}
 use Rattle.upd_memory.proofs.row_copies.entries_of.Given as goal
 
 abbrev pub invariant-loop-card : goal.invariant-loop-card

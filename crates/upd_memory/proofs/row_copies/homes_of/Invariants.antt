@@ -1,7 +1,4 @@
-use Rattle.std.proofs.Common.{◌≡◌, ℕ, take}
-use Rattle.std.specs.List.{list_any}
-use Rattle.upd_core.specs.Edits.{is_among}
-use Rattle.upd_memory.specs.RowsByKey.{is_home}
+use Rattle.upd_memory.proofs.Common.{◌≡◌, ℕ, take, list_any, is_among, is_home}
 use Rattle.upd_memory.proofs.row_copies.homes_of.Given as goal
 
 abbrev pub invariant-loop-card : goal.invariant-loop-card

@@ -1,5 +1,4 @@
-use Rattle.std.proofs.Common.{subst}
-use Rattle.std.specs.List.Sorted.{IsPermutation}
+use Rattle.upd_memory.proofs.Common.{subst, IsPermutation}
 use Rattle.upd_memory.proofs.row_copies.sorted_references.Goals as goal
 
 pub returns : goal.returns

@@ -1,4 +1,4 @@
-use Rattle.std.specs.declared.ops.Bound.TheVariants.{Unbounded}
+use Rattle.upd_memory.proofs.Common.{Unbounded}
 use Rattle.upd_memory.proofs.WalkLemmas.{range_found}
 use Rattle.upd_memory.proofs.status_answers.pairs_of.Goals as goal
 

@@ -1,7 +1,4 @@
-use Rattle.std.proofs.Common.{◌≡◌, take}
-use Rattle.std.specs.List.{flat_map}
-use Rattle.upd_memory.specs.Walk.{AreFound}
-use Rattle.upd_memory.specs.RowsByKey.{pairs_at}
+use Rattle.upd_memory.proofs.Common.{◌≡◌, take, flat_map, AreFound, pairs_at}
 use Rattle.upd_memory.proofs.status_answers.pairs_of.Given as goal
 
 abbrev pub invariant-loop-card : goal.invariant-loop-card

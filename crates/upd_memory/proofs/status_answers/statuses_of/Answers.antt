@@ -1,9 +1,5 @@
-use Rattle.std.proofs.Common.{◌∙◌, ap, subst, sym, filter, map, flat_map}
-use Rattle.upd_records.specs.Rows.{IsSame, same_ref}
-use Rattle.upd_row_store.specs.Asked.{is_asked}
-use Rattle.upd_row_store.specs.Tables.{state_pair}
-use Rattle.upd_memory.specs.ActiveRows.{AreInOrder}
-use Rattle.upd_memory.specs.RowsByKey.{pairs_at}
+use Rattle.upd_memory.proofs.Common.{◌∙◌, ap, subst, sym, map, IsSame, same_ref, is_asked, state_pair, AreInOrder, pairs_at}
+use Rattle.std.proofs.Common.{filter, flat_map}
 use Rattle.upd_memory.proofs.AskedLemmas.{found_in_order, found_same}
 use Rattle.upd_memory.proofs.status_answers.statuses_of.Goals as goal
 
@@ -17,4 +13,5 @@ returns-clause-same c = λ rows are.
     let is = c.in_ok-pairs.ensures ∙ ap (flat_map (pairs_at c.args.statuses.now)) c.deref.ensures.value in
     let asked = filter (λ r. is_asked c.args.cards.now r.card) rows in
     subst (λ xs. IsSame xs (map state_pair asked)) (sym is)
-    (found_same c.args.statuses.now c.args.cards.now c.in_ok-once.once.items rows c.in_ok-once.ensures.order (λ card. c.in_ok-once.ensures.same (λ k. same_ref k card)) are)
+    (found_same c.args.statuses.now c.args.cards.now c.in_ok-once.once.items rows c.in_ok-once.ensures.order
+    (λ card. c.in_ok-once.ensures.same (λ k. same_ref k card)) are)

@@ -1,6 +1,5 @@
-use Rattle.std.proofs.Common.{rules}
+use Rattle.upd_memory.proofs.Common.{rules, by_name}
 use Rattle.std.proofs.lemmas.Fn.{always_returns_same}
-use Rattle.upd_text.specs.Order.{by_name}
 use Rattle.upd_memory.proofs.ActiveRowsLemmas.{searched}
 use Rattle.upd_memory.proofs.status_lookup.place_of.Goals as goal
 

@@ -1,7 +1,4 @@
-use Rattle.std.proofs.Common.{Bool, ℕ, not, rules}
-use Rattle.std.proofs.lemmas.Fn.{filter_same}
-use Rattle.upd_core.specs.Targets.{is_same}
-use Rattle.upd_core.specs.declared.target.Target.{Target}
+use Rattle.upd_memory.proofs.Common.{Bool, ℕ, not, rules, filter_same, is_same, Target}
 use Rattle.upd_memory.proofs.tables.drop_count.Goals as goal
 
 pub returns : goal.returns

@@ -1,6 +1,4 @@
-use Rattle.std.proofs.Common.{refl}
-use Rattle.upd_memory.specs.RowsByKey.{placed_row}
-use Rattle.upd_core.proofs.InPlaceLemmas.{map_over_more}
+use Rattle.upd_memory.proofs.Common.{refl, placed_row, map_over_more}
 use Rattle.upd_memory.proofs.tables.move_cards.Goals as goal
 
 pub loop-row-preserved : goal.loop-row-preserved

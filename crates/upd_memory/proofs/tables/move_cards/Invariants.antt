@@ -1,5 +1,4 @@
-use Rattle.std.proofs.Common.{◌≡◌, map, take, drop, ◌++◌}
-use Rattle.upd_memory.specs.RowsByKey.{placed_row}
+use Rattle.upd_memory.proofs.Common.{◌≡◌, map, take, drop, ◌++◌, placed_row}
 use Rattle.upd_memory.proofs.tables.move_cards.Given as goal
 
 abbrev pub invariant-loop-row : goal.invariant-loop-row

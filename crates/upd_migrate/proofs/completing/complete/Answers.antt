@@ -1,10 +1,6 @@
-use Rattle.sqlite.specs.Held.{state}
-use Rattle.upd_sqlite.specs.Stored.{HoldsAllRows}
+use Rattle.upd_migrate.proofs.Common.{state, HoldsAllRows, HoldsTables, transforms_stop, transforms_then, completed, HasTables, schema_of, stored_in}
 use Rattle.upd_sql.specs.Making.{no_rows}
-use Rattle.upd_sql.specs.LibraryTables.{HoldsTables}
-use Rattle.upd_sql.proofs.MakingLemmas.{transforms_stop, transforms_then, opened_before}
-use Rattle.upd_migrate.specs.Migrated.{completed}
-use Rattle.upd_migrate.specs.Older.{HasTables, schema_of, stored_in}
+use Rattle.upd_sql.proofs.MakingLemmas.{opened_before}
 use Rattle.upd_migrate.proofs.completing.complete.Goals as goal
 
 pub returns-clause-transforms : goal.returns-clause-transforms

@@ -1,8 +1,4 @@
-use Rattle.std.proofs.Common.{◌+◌, [], ◌∷◌, ◌++◌}
-use Rattle.sqlite.specs.Held.{state}
-use Rattle.upd_sqlite.specs.Stored.{HoldsAllRows}
-use Rattle.upd_sql.specs.Making.{schema_up_to}
-use Rattle.upd_sql.proofs.MakingLemmas.{transforms_from}
+use Rattle.upd_migrate.proofs.Common.{◌+◌, [], ◌∷◌, ◌++◌, state, HoldsAllRows, schema_up_to, transforms_from}
 use Rattle.upd_migrate.proofs.Completed.{next_made}
 use Rattle.upd_migrate.proofs.completing.create.Goals as goal
 

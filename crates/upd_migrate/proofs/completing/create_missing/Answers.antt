@@ -1,11 +1,5 @@
-use Rattle.std.proofs.Common.{[], ◌∷◌, ◌++◌, sym, subst}
-use Rattle.sqlite.specs.Held.{state}
-use Rattle.upd_sqlite.specs.Stored.{HoldsAllRows}
-use Rattle.upd_sql.specs.Making.{schema_up_to, Transforms}
-use Rattle.upd_sql.proofs.MakingLemmas.{transforms_stop, transforms_then}
-use Rattle.upd_migrate.specs.declared.older_version.Version.TheVariants.{First, Second}
-use Rattle.upd_migrate.specs.Migrated.{completed}
-use Rattle.upd_migrate.specs.Older.{HasTables, schema_of, stored_in}
+use Rattle.upd_migrate.proofs.Common.{[], ◌∷◌, ◌++◌, sym, subst, state, HoldsAllRows, schema_up_to, Transforms, transforms_stop, transforms_then, First}
+use Rattle.upd_migrate.proofs.Common.{Second, completed, HasTables, schema_of, stored_in}
 use Rattle.upd_migrate.proofs.completing.create_missing.Goals as goal
 
 pub returns-in_ok-create_states-in-First-clause-transforms : goal.returns-in_ok-create_states-in-First-clause-transforms

@@ -1,8 +1,5 @@
-use Rattle.std.proofs.Common.{[], ◌∷◌, ◌++◌}
-use Rattle.sqlite.specs.Held.{state}
-use Rattle.upd_sqlite.specs.Stored.{HoldsAllRows}
-use Rattle.upd_sql.specs.Making.{schema_up_to}
-use Rattle.upd_sql.proofs.MakingLemmas.{transforms_stop, transforms_then, makes_states, makes_counts}
+use Rattle.upd_migrate.proofs.Common.{[], ◌∷◌, ◌++◌, state, HoldsAllRows, schema_up_to, transforms_stop, transforms_then}
+use Rattle.upd_sql.proofs.MakingLemmas.{makes_states, makes_counts}
 use Rattle.upd_migrate.proofs.completing.create_states.Goals as goal
 
 pub returns-clause-transforms : goal.returns-clause-transforms

@@ -1,7 +1,4 @@
-use Rattle.sqlite.specs.Held.{state}
-use Rattle.upd_sql.specs.LibraryTables.{HoldsTables}
-use Rattle.upd_sql.proofs.MakingLemmas.{transforms_from}
-use Rattle.upd_migrate.specs.Older.{HasTables}
+use Rattle.upd_migrate.proofs.Common.{state, HoldsTables, transforms_from, HasTables}
 use Rattle.upd_migrate.proofs.Completed.{set_version, version_set}
 use Rattle.upd_migrate.proofs.completing.set_version.Goals as goal
 

@@ -1,11 +1,5 @@
-use Rattle.std.proofs.Common.{Ok, refl, sym, subst}
-use Rattle.sqlite.specs.Held.{state}
-use Rattle.upd_sqlite.specs.Stored.{HoldsAllRows}
-use Rattle.upd_sql.specs.Making.{Transforms}
-use Rattle.upd_sql.specs.LibraryTables.{HoldsTables}
-use Rattle.upd_migrate.specs.declared.older_version.Version.TheVariants.{First}
-use Rattle.upd_migrate.specs.Migrated.{IsMigrated, HoldsAfter, completed}
-use Rattle.upd_migrate.specs.Older.{schema_of, stored_in}
+use Rattle.upd_migrate.proofs.Common.{Ok, refl, sym, subst, state, HoldsAllRows, Transforms, HoldsTables, First, IsMigrated, HoldsAfter, completed, schema_of}
+use Rattle.upd_migrate.proofs.Common.{stored_in}
 use Rattle.upd_migrate.proofs.Filled.{bare_rows, first_filled}
 use Rattle.upd_migrate.proofs.filling.fill.Goals as goal
 

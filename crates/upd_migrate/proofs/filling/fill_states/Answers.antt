@@ -1,10 +1,5 @@
-use Rattle.std.proofs.Common.{List, map, subst}
-use Rattle.sqlite.specs.Held.{state}
+use Rattle.upd_migrate.proofs.Common.{List, map, subst, state, change_view, done_all, AllFit, Makes, HoldsTables}
 use Rattle.upd_core.specs.declared.change.Change.{Change}
-use Rattle.upd_records.specs.Changes.{change_view, done_all}
-use Rattle.upd_records.specs.Fits.{AllFit}
-use Rattle.upd_sqlite.specs.Steps.{Makes}
-use Rattle.upd_sql.specs.LibraryTables.{HoldsTables}
 use Rattle.upd_migrate.proofs.Filled.{states_filled}
 use Rattle.upd_migrate.proofs.filling.fill_states.Goals as goal
 

@@ -1,13 +1,7 @@
-use Rattle.std.proofs.Common.{◌≡◌, ◌<◌, ◌^◌, map, length, ap, sym, ◌∙◌, subst, rules, arith}
+use Rattle.upd_migrate.proofs.Common.{◌≡◌, ◌<◌, ◌^◌, map, length, ap, sym, ◌∙◌, subst, rules, arith, LibraryView, empty, IsSound, change_view, done_all}
+use Rattle.upd_migrate.proofs.Common.{ShowsStates, TakeGone, touched, empty_sound, IsRight}
 use Rattle.upd_core.specs.Counted.{CountedView}
-use Rattle.upd_core.specs.Library.{LibraryView, empty}
-use Rattle.upd_core.specs.Sound.{AreApart, IsSound, all_cards, key_of}
-use Rattle.upd_records.specs.Changes.{change_view, done_all}
-use Rattle.upd_records.specs.Rows.{ShowsStates}
-use Rattle.upd_diff.specs.States.{TakeGone}
-use Rattle.upd_diff.specs.Touched.{touched}
-use Rattle.upd_laws.proofs.SoundRunLemmas.{empty_sound}
-use Rattle.upd_yank.specs.Right.{IsRight}
+use Rattle.upd_core.specs.Sound.{AreApart, all_cards, key_of}
 use Rattle.upd_migrate.proofs.RowChanges.{between, enough, none_gone, shows_nothing}
 use Rattle.upd_migrate.proofs.initial_states.initial_states.Goals as goal
 

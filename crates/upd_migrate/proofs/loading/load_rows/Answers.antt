@@ -1,9 +1,6 @@
-use Rattle.std.proofs.Common.{◌≡◌, ◌⊎◌, ℕ, inl, refl, sym, subst}
-use Rattle.sqlite.specs.Held.{state}
-use Rattle.sqlite.specs.State.{HasCleanDisk}
+use Rattle.upd_migrate.proofs.Common.{◌≡◌, ◌⊎◌, ℕ, inl, refl, sym, subst, state, HasCleanDisk, HasVersion}
 use Rattle.upd_row_store.specs.Keeping.{OfMemory}
 use Rattle.upd_store.specs.Faults.{IsUnopened}
-use Rattle.upd_store.specs.Version.{HasVersion}
 use Rattle.upd_migrate.proofs.PassedFaults.{passed_on}
 use Rattle.upd_migrate.proofs.loading.load_rows.Goals as goal
 

@@ -1,7 +1,4 @@
-use Rattle.std.proofs.Common.{◌≡◌, IsTrue, not, ap, sym, subst, ◌∙◌, rules}
-use Rattle.sqlite.specs.Held.{state}
-use Rattle.sqlite.specs.State.{HasCleanDisk}
-use Rattle.upd_sqlite.proofs.Chains.{clean_before}
+use Rattle.upd_migrate.proofs.Common.{◌≡◌, IsTrue, not, ap, sym, subst, ◌∙◌, rules, state, HasCleanDisk, clean_before}
 use Rattle.upd_migrate.proofs.Loaded.{read_rows}
 use Rattle.upd_migrate.proofs.loading.rows_of.Goals as goal
 

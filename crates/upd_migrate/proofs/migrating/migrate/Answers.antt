@@ -1,9 +1,4 @@
-use Rattle.std.proofs.Common.{◌≡◌, ◌⊎◌, ℕ, sym, ap, ◌∙◌}
-use Rattle.sqlite.specs.Held.{state}
-use Rattle.sqlite.specs.Effect.{Database}
-use Rattle.sqlite.specs.State.{HasCleanDisk}
-use Rattle.upd_sqlite.proofs.Chains.{clean_before}
-use Rattle.upd_store.specs.Version.{HasVersion}
+use Rattle.upd_migrate.proofs.Common.{◌≡◌, ◌⊎◌, ℕ, sym, ap, ◌∙◌, state, Database, HasCleanDisk, clean_before, HasVersion}
 use Rattle.upd_migrate.proofs.Migrates.{any_leaves, migrates_any}
 use Rattle.upd_migrate.proofs.PassedFaults.{passed_on}
 use Rattle.upd_migrate.proofs.migrating.migrate.Goals as goal

@@ -1,9 +1,6 @@
-use Rattle.std.proofs.Common.{◌≡◌, OnOk, IsTrue, not, ap, sym, subst, ◌∙◌, rules}
-use Rattle.sqlite.specs.Held.{state}
-use Rattle.sqlite.specs.State.{HasCleanDisk, Survives}
+use Rattle.upd_migrate.proofs.Common.{◌≡◌, OnOk, IsTrue, not, ap, sym, subst, ◌∙◌, rules, state, HasCleanDisk, Survives, clean_before, MayMigrateFrom}
+use Rattle.upd_migrate.proofs.Common.{MigratesFrom}
 use Rattle.sqlite.proofs.Callers.{survives_begin}
-use Rattle.upd_sqlite.proofs.Chains.{clean_before}
-use Rattle.upd_migrate.specs.Migrated.{MayMigrateFrom, MigratesFrom}
 use Rattle.upd_migrate.proofs.Migrates.{committed_whole, migration_leaves, on_ok}
 use Rattle.upd_migrate.proofs.migrating.migrate_from.Goals as goal
 

@@ -1,4 +1,4 @@
-use Rattle.std.proofs.Common.{inl, sym, ◌∙◌}
+use Rattle.upd_migrate.proofs.Common.{inl, sym, ◌∙◌}
 use Rattle.upd_migrate.proofs.older_version.known_version.Goals as goal
 
 pub returns-in-Some-clause-value : goal.returns-in-Some-clause-value

@@ -1,5 +1,4 @@
-use Rattle.std.proofs.Common.{ap, ◌∙◌}
-use Rattle.upd_sql.specs.Wanted.{first_tables}
+use Rattle.upd_migrate.proofs.Common.{ap, ◌∙◌, first_tables}
 use Rattle.upd_migrate.proofs.Versions.{first_is}
 use Rattle.upd_migrate.proofs.older_version.version_with.Goals as goal
 

@@ -1,5 +1,4 @@
-use Rattle.std.proofs.Common.{◌≡◌, take}
-use Rattle.upd_partial.specs.Needed.{cards_named}
+use Rattle.upd_partial.proofs.Common.{◌≡◌, take, cards_named}
 use Rattle.upd_partial.proofs.needs.cards_by_line.Given as goal
 
 abbrev pub invariant-loop-line : goal.invariant-loop-line

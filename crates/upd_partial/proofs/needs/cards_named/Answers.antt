@@ -1,5 +1,4 @@
-use Rattle.std.proofs.Common.{ap, ◌∙◌}
-use Rattle.std.specs.List.{list_any}
+use Rattle.upd_partial.proofs.Common.{ap, ◌∙◌, list_any}
 use Rattle.upd_partial.proofs.needs.cards_named.Goals as goal
 
 pub returns-clause-same : goal.returns-clause-same

@@ -1,5 +1,4 @@
-use Rattle.upd_diff.proofs.ShownRowsLemmas.{fit_row_changes, shown_by_row_changes, taken_by_row_changes}
-use Rattle.upd_laws.proofs.SoundRunLemmas.{run_goes, run_sound}
+use Rattle.upd_partial.proofs.Common.{fit_row_changes, shown_by_row_changes, taken_by_row_changes, run_goes, run_sound}
 use Rattle.upd_partial.proofs.part_laws.changes_lead_to_what_is_reached.Goals as goal
 
 pub returns-clause-shows : goal.returns-clause-shows

@@ -1,5 +1,4 @@
-use Rattle.upd_diff.proofs.ShownRowsLemmas.{fit_row_changes, shown_by_row_changes}
-use Rattle.upd_laws.proofs.SoundRunLemmas.{run_goes}
+use Rattle.upd_partial.proofs.Common.{fit_row_changes, shown_by_row_changes, run_goes}
 use Rattle.upd_partial.proofs.WholeLemmas.{on_whole}
 use Rattle.upd_partial.proofs.part_laws.changes_of_a_part_lead_the_whole.Goals as goal
 

@@ -1,4 +1,4 @@
-use Rattle.std.proofs.Common.{refl}
+use Rattle.upd_partial.proofs.Common.{refl}
 use Rattle.upd_partial.proofs.PartListingLemmas.{card_listed_by_part, deck_listed_by_part}
 use Rattle.upd_partial.proofs.part_laws.listings_of_a_part_are_those_of_the_whole.Goals as goal
 

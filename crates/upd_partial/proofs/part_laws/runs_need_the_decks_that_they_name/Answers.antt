@@ -1,8 +1,6 @@
-use Rattle.std.proofs.Common.{refl, ap, ◌∙◌}
-use Rattle.upd_apply.specs.Applying.{applied}
+use Rattle.upd_partial.proofs.Common.{refl, ap, ◌∙◌, applied, is_left_out}
 use Rattle.upd_partial.proofs.AppliedLemmas.{applied_same}
 use Rattle.upd_partial.proofs.NeedLemmas.{others_listed, part_of_others}
-use Rattle.upd_partial.specs.Needless.{is_left_out}
 use Rattle.upd_partial.proofs.part_laws.runs_need_the_decks_that_they_name.Goals as goal
 
 pub returns : goal.returns

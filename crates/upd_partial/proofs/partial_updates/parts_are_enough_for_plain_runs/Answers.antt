@@ -1,4 +1,4 @@
-use Rattle.std.proofs.Common.{inr, refl}
+use Rattle.upd_partial.proofs.Common.{inr, refl}
 use Rattle.upd_partial.proofs.IdleLemmas.{idle_in}
 use Rattle.upd_partial.proofs.partial_updates.parts_are_enough_for_plain_runs.Goals as goal
 

@@ -1,5 +1,4 @@
-use Rattle.std.proofs.Common.{◌≡◌, ◌++◌, drop}
-use Rattle.upd_row_store.specs.Activating.{actives_from, actives_in}
+use Rattle.upd_row_store.proofs.Common.{◌≡◌, ◌++◌, drop, actives_from, actives_in}
 use Rattle.upd_row_store.proofs.active.active_decks.Given as goal
 
 abbrev pub invariant-loop-row : goal.invariant-loop-row

@@ -1,6 +1,4 @@
-use Rattle.std.proofs.Common.{ap, ◌∙◌}
-use Rattle.upd_records.proofs.CountLemmas.{same_trans}
-use Rattle.upd_row_store.specs.Activating.{actives_in, behind_yanks}
+use Rattle.upd_row_store.proofs.Common.{ap, ◌∙◌, same_trans, actives_in, behind_yanks}
 use Rattle.upd_row_store.proofs.ActiveLemmas.{actives_again}
 use Rattle.upd_row_store.proofs.SortLemmas.{same_permuted}
 use Rattle.upd_row_store.proofs.active.assembled_active.Goals as goal

@@ -1,5 +1,4 @@
-use Rattle.std.proofs.Common.{rules}
-use Rattle.std.proofs.lemmas.Fn.{always_returns_same}
+use Rattle.upd_row_store.proofs.Common.{rules, always_returns_same}
 use Rattle.upd_row_store.proofs.active.states_by_card.Goals as goal
 
 pub returns-clause-sorted : goal.returns-clause-sorted

@@ -1,6 +1,4 @@
-use Rattle.std.proofs.Common.{◌≡◌, map, take}
-use Rattle.std.specs.List.{filter}
-use Rattle.upd_row_store.specs.Asked.{is_asked}
+use Rattle.upd_row_store.proofs.Common.{◌≡◌, map, take, filter, is_asked}
 use Rattle.upd_row_store.proofs.asked.ages_of_decks.Given as goal
 
 abbrev pub invariant-loop-row : goal.invariant-loop-row

@@ -1,5 +1,4 @@
-use Rattle.std.proofs.Common.{arith, refl, subst}
-use Rattle.std.proofs.lemmas.List.{take_all}
+use Rattle.upd_row_store.proofs.Common.{arith, refl, subst, take_all}
 use Rattle.upd_row_store.proofs.AskedLemmas.{IsSetOf, set_next}
 use Rattle.upd_row_store.proofs.asked.card_set.Goals as goal
 
@@ -8,7 +7,8 @@ loop-card-init c = λ k. rw c.new-set.ensures.empty refl
 
 pub loop-card-preserved : goal.loop-card-preserved
 loop-card-preserved c =
-    set_next c.args.cards.now c.loop-card.card-index c.card-item.result c.loop-card-test.true c.card-item.is c.loop-card.set c.insert.new.self c.loop-card.invariant
+    set_next c.args.cards.now c.loop-card.card-index c.card-item.result c.loop-card-test.true c.card-item.is c.loop-card.set c.insert.new.self
+    c.loop-card.invariant
     c.in_ok-insert.ensures.updates.0
 
 pub returns : goal.returns

@@ -1,4 +1,4 @@
-use Rattle.std.proofs.Common.{take}
+use Rattle.upd_row_store.proofs.Common.{take}
 use Rattle.upd_row_store.proofs.AskedLemmas.{IsSetOf}
 use Rattle.upd_row_store.proofs.asked.card_set.Given as goal
 

@@ -1,7 +1,4 @@
-use Rattle.std.proofs.Common.{subst}
-use Rattle.std.proofs.lemmas.List.Filters.{dedup_is}
-use Rattle.std.specs.List.Sorted.{IsPermutation}
-use Rattle.upd_text.specs.Order.{is_same_reference}
+use Rattle.upd_row_store.proofs.Common.{subst, dedup_is, IsPermutation, is_same_reference}
 use Rattle.upd_row_store.proofs.AskedLemmas.{once_in_order, once_same}
 use Rattle.upd_row_store.proofs.asked.cards_once.Goals as goal
 

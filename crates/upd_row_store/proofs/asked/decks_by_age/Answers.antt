@@ -1,6 +1,4 @@
-use Rattle.std.proofs.Common.{◌==◌, Bool, ℕ, not, rules}
-use Rattle.std.proofs.lemmas.Fn.{filter_same}
-use Rattle.std.proofs.lemmas.List.Filters.{dedup_is}
+use Rattle.upd_row_store.proofs.Common.{◌==◌, Bool, ℕ, not, rules, filter_same, dedup_is}
 use Rattle.upd_row_store.proofs.HolderLemmas.{decks_found, once_by_age}
 use Rattle.upd_row_store.proofs.asked.decks_by_age.Goals as goal
 

@@ -1,5 +1,4 @@
-use Rattle.std.proofs.Common.{ap, sym, ◌∙◌}
-use Rattle.upd_core.specs.Edits.{is_among}
+use Rattle.upd_row_store.proofs.Common.{ap, sym, ◌∙◌, is_among}
 use Rattle.upd_row_store.proofs.HolderLemmas.{none_in_yanks}
 use Rattle.upd_row_store.proofs.asked.homes_by_age.Goals as goal
 

@@ -1,8 +1,5 @@
-use Rattle.std.proofs.Common.{Bool, rules}
-use Rattle.std.proofs.lemmas.Fn.{filter_same}
+use Rattle.upd_row_store.proofs.Common.{Bool, rules, filter_same, by_name, CardRef}
 use Rattle.std.specs.BTreeSet as sorted
-use Rattle.upd_text.specs.Order.{by_name}
-use Rattle.upd_text.specs.declared.card_ref.CardRef.{CardRef}
 use Rattle.upd_row_store.proofs.asked.keep_states.Goals as goal
 
 pub returns : goal.returns

@@ -1,6 +1,5 @@
 use Rattle.std.proofs.Common.{filter}
-use Rattle.upd_records.proofs.CountLemmas.{same_filter}
-use Rattle.upd_row_store.specs.Asked.{is_asked}
+use Rattle.upd_row_store.proofs.Common.{same_filter, is_asked}
 use Rattle.upd_row_store.proofs.AskedLemmas.{states_kept}
 use Rattle.upd_row_store.proofs.asked.states_among.Goals as goal
 

@@ -1,5 +1,4 @@
-use Rattle.std.proofs.Common.{rules}
-use Rattle.std.proofs.lemmas.Fn.{always_returns_same}
+use Rattle.upd_row_store.proofs.Common.{rules, always_returns_same}
 use Rattle.upd_row_store.proofs.KeyLemmas.{sorted_by_key}
 use Rattle.upd_row_store.proofs.asked.states_by_key.Goals as goal
 

@@ -1,4 +1,4 @@
-use Rattle.std.proofs.Common.{sym, ◌∙◌}
+use Rattle.upd_row_store.proofs.Common.{sym, ◌∙◌}
 use Rattle.upd_row_store.proofs.assemble.assembled.Goals as goal
 
 pub returns-clause-part : goal.returns-clause-part

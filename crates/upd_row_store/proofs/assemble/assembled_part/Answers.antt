@@ -1,5 +1,4 @@
-use Rattle.std.proofs.Common.{◌<◌, ◌^◌, ap, sym, ◌∙◌, arith}
-use Rattle.upd_core.specs.Parts.{cards_of_decks, entries_of_decks, part_of}
+use Rattle.upd_row_store.proofs.Common.{◌<◌, ◌^◌, ap, sym, ◌∙◌, arith, cards_of_decks, entries_of_decks, part_of}
 use Rattle.upd_row_store.proofs.PartLemmas.{few_cards, few_entries}
 use Rattle.upd_row_store.proofs.assemble.assembled_part.Goals as goal
 

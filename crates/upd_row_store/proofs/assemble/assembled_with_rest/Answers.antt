@@ -1,6 +1,4 @@
-use Rattle.std.proofs.Common.{◌∙◌, ◌≡◌, arith}
-use Rattle.upd_core.specs.Parts.{part_of}
-use Rattle.upd_row_store.specs.PartRows.{part_rows}
+use Rattle.upd_row_store.proofs.Common.{◌∙◌, ◌≡◌, arith, part_of, part_rows}
 use Rattle.upd_row_store.proofs.RestLemmas.{part_shown, part_sound, parted, rest_made, rows_apart}
 use Rattle.upd_row_store.proofs.assemble.assembled_with_rest.Goals as goal
 

@@ -1,6 +1,4 @@
-use Rattle.std.proofs.Common.{◌++◌, ap, sym, ◌∙◌}
-use Rattle.upd_records.specs.Rows.{CardRow}
-use Rattle.upd_row_store.specs.Assembling.{decks_from}
+use Rattle.upd_row_store.proofs.Common.{◌++◌, ap, sym, ◌∙◌, CardRow, decks_from}
 use Rattle.upd_row_store.proofs.assemble.decks_in.Goals as goal
 
 pub loop-row-preserved : goal.loop-row-preserved

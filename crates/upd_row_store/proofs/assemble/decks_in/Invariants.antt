@@ -1,5 +1,4 @@
-use Rattle.std.proofs.Common.{◌≡◌, ◌++◌}
-use Rattle.upd_row_store.specs.Assembling.{decks_from, decks_in}
+use Rattle.upd_row_store.proofs.Common.{◌≡◌, ◌++◌, decks_from, decks_in}
 use Rattle.upd_row_store.proofs.assemble.decks_in.Given as goal
 
 abbrev pub invariant-loop-row : goal.invariant-loop-row

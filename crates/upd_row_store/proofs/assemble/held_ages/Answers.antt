@@ -1,10 +1,6 @@
-use Rattle.std.proofs.Common.{◌-◌, ◌+◌, ◌<◌, length, ◌∷◌, ◌≡◌, drop, sym, ◌∙◌, subst, arith}
+use Rattle.upd_row_store.proofs.Common.{◌-◌, ◌+◌, ◌<◌, length, ◌∷◌, ◌≡◌, drop, sym, ◌∙◌, subst, arith, slice_cmp, option_map, nat_cmp, held_named}
 use Rattle.std.proofs.lemmas.List.{drop_more}
 use Rattle.std.specs.BTreeMap as tree
-use Rattle.std.specs.Cmp.Lexicographic.{slice_cmp}
-use Rattle.std.specs.Option.{option_map}
-use Rattle.std.specs.Ordering.{nat_cmp}
-use Rattle.upd_core.specs.Library.{held_named}
 use Rattle.upd_row_store.proofs.AssembleLemmas.{ages_more}
 use Rattle.upd_row_store.proofs.assemble.held_ages.Goals as goal
 

@@ -1,4 +1,4 @@
-use Rattle.std.proofs.Common.{drop}
+use Rattle.upd_row_store.proofs.Common.{drop}
 use Rattle.upd_row_store.specs.Assembling.{AreAgesOf}
 use Rattle.upd_row_store.proofs.assemble.held_ages.Given as goal
 

@@ -1,4 +1,4 @@
-use Rattle.std.proofs.Common.{◌≡◌, map, take}
+use Rattle.upd_row_store.proofs.Common.{◌≡◌, map, take}
 use Rattle.upd_row_store.proofs.assemble.history_of.Given as goal
 
 abbrev pub invariant-loop-row : goal.invariant-loop-row

@@ -1,6 +1,4 @@
-use Rattle.std.proofs.Common.{ap, ◌∙◌}
-use Rattle.upd_records.proofs.CountLemmas.{same_trans}
-use Rattle.upd_row_store.specs.Assembling.{decks_in, library_of}
+use Rattle.upd_row_store.proofs.Common.{ap, ◌∙◌, same_trans, decks_in, library_of}
 use Rattle.upd_row_store.proofs.AssembleLemmas.{made_again}
 use Rattle.upd_row_store.proofs.SortLemmas.{same_permuted}
 use Rattle.upd_row_store.proofs.assemble.idents_and_decks.Goals as goal

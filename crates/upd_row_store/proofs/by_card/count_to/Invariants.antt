@@ -1,7 +1,4 @@
-use Rattle.std.proofs.Common.{◌≡◌, ◌-◌, ◌≤◌, length, true}
-use Rattle.std.specs.List.{AllWithin}
-use Rattle.std.specs.Ordering.{is_le}
-use Rattle.upd_text.specs.Order.{card_order}
+use Rattle.upd_row_store.proofs.Common.{◌≡◌, ◌-◌, ◌≤◌, length, true, AllWithin, is_le, card_order}
 use Rattle.upd_row_store.proofs.by_card.count_to.Given as goal
 
 abbrev pub invariant-loop-count : goal.invariant-loop-count

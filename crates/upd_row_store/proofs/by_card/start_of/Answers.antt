@@ -1,7 +1,5 @@
-use Rattle.std.proofs.Common.{rules}
+use Rattle.upd_row_store.proofs.Common.{rules, is_lt, card_order}
 use Rattle.std.proofs.lemmas.List.Sorted.{IsPartitionPoint-from_clause}
-use Rattle.std.specs.Ordering.{is_lt}
-use Rattle.upd_text.specs.Order.{card_order}
 use Rattle.upd_row_store.proofs.ByCardLemmas.{below_parts, parted_at}
 use Rattle.upd_row_store.proofs.by_card.start_of.Goals as goal
 

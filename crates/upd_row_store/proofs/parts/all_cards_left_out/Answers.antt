@@ -1,5 +1,4 @@
-use Rattle.std.proofs.Common.{◌∙◌, not, length}
-use Rattle.upd_core.specs.Edits.{is_among}
+use Rattle.upd_row_store.proofs.Common.{◌∙◌, not, length, is_among}
 use Rattle.upd_row_store.proofs.PartLemmas.{left_more}
 use Rattle.upd_row_store.proofs.parts.all_cards_left_out.Goals as goal
 

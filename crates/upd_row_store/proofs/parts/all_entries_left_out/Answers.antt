@@ -1,5 +1,5 @@
-use Rattle.std.proofs.Common.{◌∙◌, not, length, sum_by}
-use Rattle.upd_core.specs.Edits.{is_among}
+use Rattle.upd_row_store.proofs.Common.{◌∙◌, not, length, is_among}
+use Rattle.std.proofs.Common.{sum_by}
 use Rattle.upd_row_store.proofs.PartLemmas.{left_more}
 use Rattle.upd_row_store.proofs.parts.all_entries_left_out.Goals as goal
 

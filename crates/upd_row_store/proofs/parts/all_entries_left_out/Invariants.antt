@@ -1,8 +1,4 @@
-use Rattle.std.proofs.Common.{◌≡◌, not, take}
-use Rattle.std.specs.List.{filter}
-use Rattle.upd_core.specs.Counts.{capped}
-use Rattle.upd_core.specs.Edits.{is_among}
-use Rattle.upd_core.specs.Parts.{entries_of_decks}
+use Rattle.upd_row_store.proofs.Common.{◌≡◌, not, take, filter, capped, is_among, entries_of_decks}
 use Rattle.upd_row_store.proofs.parts.all_entries_left_out.Given as goal
 
 abbrev pub invariant-loop-deck : goal.invariant-loop-deck

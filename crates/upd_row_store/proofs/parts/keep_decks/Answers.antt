@@ -1,7 +1,4 @@
-use Rattle.std.proofs.Common.{Bool, not, rules}
-use Rattle.std.proofs.lemmas.Fn.{filter_same}
-use Rattle.upd_core.specs.Edits.{is_among}
-use Rattle.upd_core.specs.Library.{DeckView}
+use Rattle.upd_row_store.proofs.Common.{Bool, not, rules, filter_same, is_among, DeckView}
 use Rattle.upd_row_store.proofs.parts.keep_decks.Goals as goal
 
 pub returns : goal.returns

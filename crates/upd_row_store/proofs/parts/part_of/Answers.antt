@@ -1,5 +1,4 @@
-use Rattle.std.proofs.Common.{◌<◌, ◌∷◌, length, remove, ap, sym, ◌∙◌, arith}
-use Rattle.std.proofs.lemmas.Bool.Decides.{nat_tests}
+use Rattle.upd_row_store.proofs.Common.{◌<◌, ◌∷◌, length, remove, ap, sym, ◌∙◌, arith, nat_tests}
 use Rattle.upd_row_store.proofs.PartLemmas.{first_and_rest, part_made}
 use Rattle.upd_row_store.proofs.parts.part_of.Goals as goal
 

@@ -1,14 +1,6 @@
-use Rattle.std.proofs.Common.{◌≡◌, Ok, option_copied, true, map, refl, subst, rules, arith}
-use Rattle.sqlite.specs.Held.{state}
-use Rattle.sqlite.specs.State.{HasCleanDisk, Survives}
-use Rattle.sqlite.proofs.Callers.{survives_begin}
-use Rattle.upd_records.specs.Changes.{change_view, done_all}
-use Rattle.upd_row_store.specs.Tables.{committed, with_run}
-use Rattle.upd_sqlite.specs.Steps.{Makes}
-use Rattle.upd_sqlite.proofs.Chains.{makes_then, makes_as}
-use Rattle.upd_sql.specs.Commits.{MayCommit}
-use Rattle.upd_sql.specs.Doable.{AllCanBeDone}
-use Rattle.upd_sql.specs.LibraryTables.{HoldsTables, AnyTables}
+use Rattle.upd_sql.proofs.Common.{◌≡◌, Ok, option_copied, true, map, refl, subst, rules, arith, state, HasCleanDisk, Survives, survives_begin, change_view}
+use Rattle.upd_sql.proofs.Common.{done_all, with_run, Makes, makes_then, makes_as, MayCommit, AllCanBeDone, HoldsTables, AnyTables}
+use Rattle.upd_row_store.specs.Tables.{committed}
 use Rattle.upd_sql.proofs.CommitLemmas.{crash_leaves}
 use Rattle.upd_sql.proofs.commits.commit_changes.Goals as goal
 

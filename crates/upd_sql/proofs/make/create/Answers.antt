@@ -1,6 +1,4 @@
-use Rattle.std.proofs.Common.{◌+◌}
-use Rattle.sqlite.specs.Held.{state}
-use Rattle.upd_sql.specs.Making.{HasEmptyTables}
+use Rattle.upd_sql.proofs.Common.{◌+◌, state, HasEmptyTables}
 use Rattle.upd_sql.proofs.MakingLemmas.{transforms_from, next_made}
 use Rattle.upd_sql.proofs.make.create.Goals as goal
 

@@ -1,6 +1,4 @@
-use Rattle.std.proofs.Common.{Err, rules}
-use Rattle.sqlite.specs.Held.{state}
-use Rattle.upd_sql.specs.Making.{HasEmptyTables}
+use Rattle.upd_sql.proofs.Common.{Err, rules, state, HasEmptyTables}
 use Rattle.upd_sql.proofs.MakingLemmas.{transforms_stop, transforms_then, makes_meta, makes_idents, makes_cards}
 use Rattle.upd_sql.proofs.make.create_cards.Goals as goal
 

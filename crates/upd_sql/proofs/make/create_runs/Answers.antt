@@ -1,6 +1,4 @@
-use Rattle.std.proofs.Common.{Err, rules}
-use Rattle.sqlite.specs.Held.{state}
-use Rattle.upd_sql.specs.Making.{HasEmptyTables}
+use Rattle.upd_sql.proofs.Common.{Err, rules, state, HasEmptyTables}
 use Rattle.upd_sql.proofs.MakingLemmas.{transforms_stop, transforms_then, makes_entries, makes_targets, makes_runs}
 use Rattle.upd_sql.proofs.make.create_runs.Goals as goal
 

@@ -1,7 +1,4 @@
-use Rattle.std.proofs.Common.{rules}
-use Rattle.sqlite.specs.Held.{state}
-use Rattle.upd_sql.specs.Making.{HasEmptyTables, no_rows}
-use Rattle.upd_sql.specs.LibraryTables.{HoldsTables}
+use Rattle.upd_sql.proofs.Common.{rules, state, HasEmptyTables, no_rows, HoldsTables}
 use Rattle.upd_sql.proofs.WriteTexts.{insert_version}
 use Rattle.upd_sql.proofs.MakingLemmas.{transforms_from, version_written}
 use Rattle.upd_sql.proofs.make.insert_version.Goals as goal

@@ -1,8 +1,4 @@
-use Rattle.std.proofs.Common.{◌≡◌, subst, rules}
-use Rattle.sqlite.specs.Held.{state}
-use Rattle.sqlite.specs.State.{Survives}
-use Rattle.sqlite.proofs.Callers.{survives_begin}
-use Rattle.upd_sql.specs.Making.{MayMake}
+use Rattle.upd_sql.proofs.Common.{◌≡◌, subst, rules, state, Survives, survives_begin, MayMake}
 use Rattle.upd_sql.proofs.CommitLemmas.{making_leaves}
 use Rattle.upd_sql.proofs.make.make_library.Goals as goal
 

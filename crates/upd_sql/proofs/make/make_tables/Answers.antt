@@ -1,7 +1,4 @@
-use Rattle.std.proofs.Common.{Ok, rules}
-use Rattle.sqlite.specs.Held.{state}
-use Rattle.upd_sql.specs.Making.{HasEmptyTables, Transforms, no_rows}
-use Rattle.upd_sql.specs.LibraryTables.{HoldsTables}
+use Rattle.upd_sql.proofs.Common.{Ok, rules, state, HasEmptyTables, Transforms, no_rows, HoldsTables}
 use Rattle.upd_sql.proofs.MakingLemmas.{transforms_then, opened_before}
 use Rattle.upd_sql.proofs.make.make_tables.Goals as goal
 

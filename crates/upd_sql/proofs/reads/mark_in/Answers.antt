@@ -1,7 +1,4 @@
-use Rattle.std.proofs.Common.{◌≡◌, filter, [], ◌∷◌, ◌∙◌}
-use Rattle.sqlite_value.specs.declared.value.Value.TheVariants.{Text}
-use Rattle.sqlite.specs.Held.{state}
-use Rattle.upd_row_store.specs.Tables.{is_mark_of, mark_at}
+use Rattle.upd_sql.proofs.Common.{◌≡◌, filter, [], ◌∷◌, ◌∙◌, Text, state, is_mark_of, mark_at}
 use Rattle.upd_sql.specs.declared.texts.TheConstants.{MARK_OF_SITE}
 use Rattle.upd_sql.proofs.Finds.{first_is_mark, marks_found, on_value}
 use Rattle.upd_sql.proofs.ReadTexts.{mark_of_site}

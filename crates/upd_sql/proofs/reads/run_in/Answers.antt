@@ -1,9 +1,5 @@
-use Rattle.std.proofs.Common.{◌≡◌, filter, [], ◌∷◌, ◌∙◌}
-use Rattle.sqlite_value.specs.declared.value.Value.TheVariants.{Text}
-use Rattle.sqlite.specs.Held.{state}
-use Rattle.upd_row_store.specs.Tables.{is_run, run_at}
+use Rattle.upd_sql.proofs.Common.{◌≡◌, filter, [], ◌∷◌, ◌∙◌, Text, state, is_run, run_at, num}
 use Rattle.upd_sql.specs.declared.texts.TheConstants.{RUN_OF_KEY}
-use Rattle.upd_sql.specs.Encoded.{num}
 use Rattle.upd_sql.proofs.Finds.{first_is_run, runs_found, on_value}
 use Rattle.upd_sql.proofs.ReadTexts.{run_of_key}
 use Rattle.upd_sql.proofs.WholeLemmas.{looked}

@@ -1,4 +1,4 @@
-use Rattle.std.proofs.Common.{◌≡◌, List, map, take}
+use Rattle.upd_sql.proofs.Common.{◌≡◌, List, map, take}
 use Rattle.upd_sql.proofs.record.each.Given as goal
 
 abbrev pub invariant-loop-row : goal.invariant-loop-row

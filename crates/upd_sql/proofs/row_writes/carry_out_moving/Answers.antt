@@ -1,9 +1,5 @@
-use Rattle.std.proofs.Common.{List, map, option_copied, take, Ok, sym, subst, ◌∙◌}
-use Rattle.sqlite.specs.Held.{state}
-use Rattle.upd_records.specs.Changes.{ChangeView, done_all, change_view}
-use Rattle.upd_sqlite.specs.Steps.{Makes}
-use Rattle.upd_sql.specs.Doable.{AllCanBeDone}
-use Rattle.upd_sql.specs.LibraryTables.{HoldsTables}
+use Rattle.upd_sql.proofs.Common.{List, map, option_copied, take, Ok, sym, subst, ◌∙◌, state, ChangeView, done_all, change_view, Makes, AllCanBeDone}
+use Rattle.upd_sql.proofs.Common.{HoldsTables}
 use Rattle.upd_sql.proofs.Turns.{one_made, seen_more}
 use Rattle.upd_sql.proofs.row_writes.carry_out_moving.Goals as goal
 

@@ -1,9 +1,4 @@
-use Rattle.std.proofs.Common.{◌≡◌, map, option_copied, take, Ok}
-use Rattle.sqlite.specs.Held.{state}
-use Rattle.upd_records.specs.Changes.{done_all, change_view}
-use Rattle.upd_sqlite.specs.Steps.{Makes}
-use Rattle.upd_sql.specs.Doable.{AllCanBeDone}
-use Rattle.upd_sql.specs.LibraryTables.{HoldsTables}
+use Rattle.upd_sql.proofs.Common.{◌≡◌, map, option_copied, take, Ok, state, done_all, change_view, Makes, AllCanBeDone, HoldsTables}
 use Rattle.upd_sql.proofs.row_writes.carry_out_moving.Given as goal
 
 abbrev pub invariant-loop-change : goal.invariant-loop-change

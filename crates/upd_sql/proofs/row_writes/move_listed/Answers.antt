@@ -1,19 +1,8 @@
-use Rattle.std.proofs.Common.{ℕ, List, pos, Ok, refl, sym, subst, ◌∙◌, rules}
-use Rattle.std.specs.Cmp.Lexicographic.{slice_cmp}
-use Rattle.std.specs.List.Sorted.{IsStrictlySortedBy}
-use Rattle.std.specs.Map.{keys_of}
+use Rattle.upd_sql.proofs.Common.{ℕ, List, pos, Ok, refl, sym, subst, ◌∙◌, rules, slice_cmp, IsStrictlySortedBy, keys_of, nat_cmp, state, CardsMoved, Fits}
+use Rattle.upd_sql.proofs.Common.{Rows, MovesListed, Makes, HoldsTables, with_others_moved}
 use Rattle.std.specs.Map.Iter.{deref_pair}
-use Rattle.std.specs.Ordering.{nat_cmp}
 use Rattle.std.proofs.lemmas.Map.Iter.{rest_all, rest_more}
 use Rattle.std.proofs.lemmas.Map.Keys.{sorted_tail}
-use Rattle.sqlite.specs.Held.{state}
-use Rattle.upd_records.specs.Changes.{CardsMoved}
-use Rattle.upd_records.specs.Fits.{Fits}
-use Rattle.upd_records.specs.Rows.{Rows}
-use Rattle.upd_row_store.specs.Movable.{MovesListed}
-use Rattle.upd_sqlite.specs.Steps.{Makes}
-use Rattle.upd_sql.specs.LibraryTables.{HoldsTables}
-use Rattle.upd_sql.specs.RowEdits.{with_others_moved}
 use Rattle.upd_sql.proofs.MovingLemmas.{none_moved, one_moved}
 use Rattle.upd_sql.proofs.row_writes.move_listed.Goals as goal
 

@@ -1,15 +1,5 @@
-use Rattle.std.proofs.Common.{◌≡◌, pos, Ok}
-use Rattle.std.specs.Cmp.Lexicographic.{slice_cmp}
-use Rattle.std.specs.List.Sorted.{IsStrictlySortedBy}
-use Rattle.std.specs.Map.{keys_of}
-use Rattle.std.specs.Ordering.{nat_cmp}
-use Rattle.sqlite.specs.Held.{state}
-use Rattle.upd_records.specs.Changes.{CardsMoved}
-use Rattle.upd_records.specs.Fits.{Fits}
-use Rattle.upd_row_store.specs.Movable.{MovesListed}
-use Rattle.upd_sqlite.specs.Steps.{Makes}
-use Rattle.upd_sql.specs.LibraryTables.{HoldsTables}
-use Rattle.upd_sql.specs.RowEdits.{with_others_moved}
+use Rattle.upd_sql.proofs.Common.{◌≡◌, pos, Ok, slice_cmp, IsStrictlySortedBy, keys_of, nat_cmp, state, CardsMoved, Fits, MovesListed, Makes, HoldsTables}
+use Rattle.upd_sql.proofs.Common.{with_others_moved}
 use Rattle.upd_sql.proofs.row_writes.move_listed.Given as goal
 
 abbrev pub invariant-loop-ident : goal.invariant-loop-ident

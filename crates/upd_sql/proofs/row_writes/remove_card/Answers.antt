@@ -1,6 +1,4 @@
-use Rattle.std.proofs.Common.{rules}
-use Rattle.sqlite.specs.Held.{state}
-use Rattle.upd_sql.specs.RowEdits.{without_card, without_state}
+use Rattle.upd_sql.proofs.Common.{rules, state, without_card, without_state}
 use Rattle.upd_sql.proofs.Typed.{makes_both}
 use Rattle.upd_sql.proofs.row_writes.remove_card.Goals as goal
 

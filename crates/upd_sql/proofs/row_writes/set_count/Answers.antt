@@ -1,10 +1,5 @@
-use Rattle.std.proofs.Common.{◌≡◌, ne_eqb, refl, rules}
-use Rattle.sqlite.specs.Held.{state}
-use Rattle.upd_records.specs.Changes.{done, CountNow}
-use Rattle.upd_records.specs.Rows.{Rows}
-use Rattle.upd_sqlite.proofs.Chains.{makes_as}
-use Rattle.upd_sql.specs.RowEdits.{with_count, without_count}
-use Rattle.upd_sql.specs.LibraryTables.{HoldsTables, AnyTables}
+use Rattle.upd_sql.proofs.Common.{◌≡◌, ne_eqb, refl, rules, state, done, Rows, makes_as, with_count, without_count, HoldsTables, AnyTables}
+use Rattle.upd_records.specs.Changes.{CountNow}
 use Rattle.upd_sql.proofs.Typed.{makes_both}
 use Rattle.upd_sql.proofs.row_writes.set_count.Goals as goal
 

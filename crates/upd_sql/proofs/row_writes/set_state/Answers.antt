@@ -1,5 +1,4 @@
-use Rattle.std.proofs.Common.{rules}
-use Rattle.sqlite.specs.Held.{state}
+use Rattle.upd_sql.proofs.Common.{rules, state}
 use Rattle.upd_sql.proofs.ToldLemmas.{told_anew, told_in_place, told_last}
 use Rattle.upd_sql.proofs.row_writes.set_state.Goals as goal
 

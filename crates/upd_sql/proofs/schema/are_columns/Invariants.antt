@@ -1,4 +1,4 @@
-use Rattle.std.proofs.Common.{◌≡◌, map, take}
+use Rattle.upd_sql.proofs.Common.{◌≡◌, map, take}
 use Rattle.upd_sql.specs.Wanted.{column_of}
 use Rattle.upd_sql.proofs.schema.are_columns.Given as goal
 

@@ -1,5 +1,4 @@
-use Rattle.std.proofs.Common.{◌≡◌, take}
-use Rattle.upd_sql.specs.Wanted.{key_indexes}
+use Rattle.upd_sql.proofs.Common.{◌≡◌, take, key_indexes}
 use Rattle.upd_sql.proofs.schema.are_indexes.Given as goal
 
 abbrev pub invariant-loop-at : goal.invariant-loop-at

@@ -1,5 +1,4 @@
-use Rattle.std.proofs.Common.{◌≡◌, take}
-use Rattle.upd_sql.specs.Schema.{library_schema}
+use Rattle.upd_sql.proofs.Common.{◌≡◌, take, library_schema}
 use Rattle.upd_sql.proofs.schema.are_tables.Given as goal
 
 abbrev pub invariant-loop-at : goal.invariant-loop-at

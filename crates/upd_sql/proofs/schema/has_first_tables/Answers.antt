@@ -1,4 +1,4 @@
-use Rattle.std.proofs.Common.{IsTrue, sym, ◌∙◌, rules}
+use Rattle.upd_sql.proofs.Common.{IsTrue, sym, ◌∙◌, rules}
 use Rattle.upd_sql.proofs.SchemaLemmas.{first_are}
 use Rattle.upd_sql.proofs.schema.has_first_tables.Goals as goal
 

@@ -1,4 +1,4 @@
-use Rattle.std.proofs.Common.{sym, ◌∙◌}
+use Rattle.upd_sql.proofs.Common.{sym, ◌∙◌}
 use Rattle.upd_sql.proofs.SchemaLemmas.{all_are}
 use Rattle.upd_sql.proofs.schema.is_library_schema.Goals as goal
 

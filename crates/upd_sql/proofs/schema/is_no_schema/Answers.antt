@@ -1,4 +1,4 @@
-use Rattle.std.proofs.Common.{IsTrue, rules}
+use Rattle.upd_sql.proofs.Common.{IsTrue, rules}
 use Rattle.upd_sql.proofs.SchemaLemmas.{no_schema_is}
 use Rattle.upd_sql.proofs.schema.is_no_schema.Goals as goal
 

@@ -1,7 +1,4 @@
-use Rattle.std.proofs.Common.{rules}
-use Rattle.sqlite.specs.Held.{state}
-use Rattle.upd_records.specs.Rows.{Rows}
-use Rattle.upd_sql.specs.RowEdits.{without_runs, without_mark, with_mark}
+use Rattle.upd_sql.proofs.Common.{rules, state, Rows, without_runs, without_mark, with_mark}
 use Rattle.upd_sql.proofs.Typed.{makes_both}
 use Rattle.upd_sql.proofs.settle.set_mark.Goals as goal
 

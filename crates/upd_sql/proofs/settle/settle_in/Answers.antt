@@ -1,6 +1,4 @@
-use Rattle.std.proofs.Common.{arith}
-use Rattle.sqlite.specs.Held.{state}
-use Rattle.sqlite.specs.State.{HasCleanDisk}
+use Rattle.upd_sql.proofs.Common.{arith, state, HasCleanDisk}
 use Rattle.upd_sql.proofs.MarkLemmas.{mark_rises_to}
 use Rattle.upd_sql.proofs.settle.settle_in.Goals as goal
 

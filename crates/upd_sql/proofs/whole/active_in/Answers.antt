@@ -1,6 +1,4 @@
-use Rattle.std.proofs.Common.{Ok, rules}
-use Rattle.sqlite.specs.Held.{state}
-use Rattle.upd_sql.specs.Listed.{AreInOrder, in_any_order}
+use Rattle.upd_sql.proofs.Common.{Ok, rules, state, AreInOrder, in_any_order}
 use Rattle.upd_sql.specs.Part.{AreActiveRows}
 use Rattle.upd_sql.proofs.WholeLemmas.{looks_more, looks_then}
 use Rattle.upd_sql.proofs.whole.active_in.Goals as goal

@@ -1,6 +1,4 @@
-use Rattle.std.proofs.Common.{[], sym, subst, ◌∙◌}
-use Rattle.sqlite.specs.Held.{state}
-use Rattle.upd_sql.specs.Listed.{AreInOrder}
+use Rattle.upd_sql.proofs.Common.{[], sym, subst, ◌∙◌, state, AreInOrder}
 use Rattle.upd_sql.proofs.Finds.{on_value}
 use Rattle.upd_sql.proofs.WholeLemmas.{looked}
 use Rattle.upd_sql.proofs.whole.all_of.Goals as goal

@@ -1,7 +1,5 @@
-use Rattle.std.proofs.Common.{map, rules}
-use Rattle.sqlite.specs.Held.{state}
-use Rattle.upd_row_store.specs.Tables.{AreByKey, AreRead, count_pair, state_pair}
-use Rattle.upd_sql.specs.Listed.{AreInOrder, in_any_order}
+use Rattle.upd_sql.proofs.Common.{map, rules, state, count_pair, state_pair, AreInOrder, in_any_order}
+use Rattle.upd_row_store.specs.Tables.{AreByKey, AreRead}
 use Rattle.upd_sql.proofs.WholeLemmas.{looks_more}
 use Rattle.upd_sql.proofs.whole.all_states_in.Goals as goal
 

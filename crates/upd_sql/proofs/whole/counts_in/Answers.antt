@@ -1,7 +1,4 @@
-use Rattle.std.proofs.Common.{map}
-use Rattle.upd_row_store.specs.Tables.{count_pair}
-use Rattle.sqlite.specs.Held.{state}
-use Rattle.upd_sql.specs.Listed.{in_any_order}
+use Rattle.upd_sql.proofs.Common.{map, count_pair, state, in_any_order}
 use Rattle.upd_sql.proofs.ReadTexts.{all_counts}
 use Rattle.upd_sql.proofs.WholeLemmas.{counts_listed}
 use Rattle.upd_sql.proofs.whole.counts_in.Goals as goal

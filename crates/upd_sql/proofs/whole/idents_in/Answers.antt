@@ -1,5 +1,4 @@
-use Rattle.sqlite.specs.Held.{state}
-use Rattle.upd_sql.specs.Listed.{in_any_order}
+use Rattle.upd_sql.proofs.Common.{state, in_any_order}
 use Rattle.upd_sql.proofs.ReadTexts.{all_idents}
 use Rattle.upd_sql.proofs.WholeLemmas.{idents_listed}
 use Rattle.upd_sql.proofs.whole.idents_in.Goals as goal

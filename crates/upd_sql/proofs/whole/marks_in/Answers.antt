@@ -1,5 +1,4 @@
-use Rattle.sqlite.specs.Held.{state}
-use Rattle.upd_sql.specs.Listed.{by_site}
+use Rattle.upd_sql.proofs.Common.{state, by_site}
 use Rattle.upd_sql.proofs.ReadTexts.{all_marks}
 use Rattle.upd_sql.proofs.WholeLemmas.{marks_listed}
 use Rattle.upd_sql.proofs.whole.marks_in.Goals as goal

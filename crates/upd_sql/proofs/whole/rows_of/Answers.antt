@@ -1,4 +1,4 @@
-use Rattle.sqlite.specs.Held.{state}
+use Rattle.upd_sql.proofs.Common.{state}
 use Rattle.sqlite.specs.Values.{bound}
 use Rattle.upd_sql.proofs.Finds.{untouched}
 use Rattle.upd_sql.proofs.Typed.{was_open_from}

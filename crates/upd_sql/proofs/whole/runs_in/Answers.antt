@@ -1,5 +1,4 @@
-use Rattle.sqlite.specs.Held.{state}
-use Rattle.upd_sql.specs.Listed.{by_key}
+use Rattle.upd_sql.proofs.Common.{state, by_key}
 use Rattle.upd_sql.proofs.ReadTexts.{all_runs}
 use Rattle.upd_sql.proofs.WholeLemmas.{runs_listed}
 use Rattle.upd_sql.proofs.whole.runs_in.Goals as goal

@@ -1,5 +1,4 @@
-use Rattle.std.proofs.Common.{◌≡◌, [], ◌∙◌}
-use Rattle.sqlite.specs.Held.{state}
+use Rattle.upd_sql.proofs.Common.{◌≡◌, [], ◌∙◌, state}
 use Rattle.upd_sql.proofs.Finds.{on_value}
 use Rattle.upd_sql.proofs.ReadTexts as query
 use Rattle.upd_sql.proofs.WholeLemmas.{looked, runs_turned}

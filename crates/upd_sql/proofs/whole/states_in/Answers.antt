@@ -1,7 +1,4 @@
-use Rattle.std.proofs.Common.{map}
-use Rattle.upd_row_store.specs.Tables.{state_pair}
-use Rattle.sqlite.specs.Held.{state}
-use Rattle.upd_sql.specs.Listed.{in_any_order}
+use Rattle.upd_sql.proofs.Common.{map, state_pair, state, in_any_order}
 use Rattle.upd_sql.proofs.ReadTexts.{all_states}
 use Rattle.upd_sql.proofs.WholeLemmas.{states_listed}
 use Rattle.upd_sql.proofs.whole.states_in.Goals as goal

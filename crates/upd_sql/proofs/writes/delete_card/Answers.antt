@@ -1,6 +1,4 @@
-use Rattle.sqlite.specs.Held.{state}
-use Rattle.upd_sql.specs.RowEdits.{without_card}
-use Rattle.upd_sql.specs.LibraryTables.{AnyTables}
+use Rattle.upd_sql.proofs.Common.{state, without_card, AnyTables}
 use Rattle.upd_sql.proofs.Conditions.{card_params}
 use Rattle.upd_sql.proofs.Typed.{makes_from}
 use Rattle.upd_sql.proofs.WriteTexts.{delete_card}

@@ -1,10 +1,4 @@
-use Rattle.std.proofs.Common.{subst}
-use Rattle.sqlite_value.specs.Order.{Row}
-use Rattle.sqlite.specs.Held.{state}
-use Rattle.upd_sqlite.specs.Steps.{Ran}
-use Rattle.upd_sql.specs.Encoded.{target_code}
-use Rattle.upd_sql.specs.RowEdits.{without_count}
-use Rattle.upd_sql.specs.LibraryTables.{AnyTables}
+use Rattle.upd_sql.proofs.Common.{subst, Row, state, Ran, target_code, without_count, AnyTables}
 use Rattle.upd_sql.proofs.Typed.{makes_from}
 use Rattle.upd_sql.proofs.WriteTexts.{delete_count}
 use Rattle.upd_sql.proofs.Effects.{count_gone}

@@ -1,9 +1,4 @@
-use Rattle.std.proofs.Common.{[], ◌∷◌, refl}
-use Rattle.sqlite_value.specs.declared.value.Value.TheVariants.{Text}
-use Rattle.sqlite.specs.Held.{state}
-use Rattle.upd_sql.specs.Encoded.{num}
-use Rattle.upd_sql.specs.RowEdits.{without_runs}
-use Rattle.upd_sql.specs.LibraryTables.{AnyTables}
+use Rattle.upd_sql.proofs.Common.{[], ◌∷◌, refl, Text, state, num, without_runs, AnyTables}
 use Rattle.upd_sql.proofs.Typed.{makes_from, makes_nothing}
 use Rattle.upd_sql.proofs.WriteTexts.{delete_runs}
 use Rattle.upd_sql.proofs.Effects.{runs_gone}

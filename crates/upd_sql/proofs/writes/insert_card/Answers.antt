@@ -1,8 +1,5 @@
-use Rattle.sqlite.specs.Held.{state}
-use Rattle.upd_records.specs.Changes.{done, CardNew}
-use Rattle.upd_records.specs.Rows.{CardRow}
-use Rattle.upd_sql.specs.Encoded.{card_row}
-use Rattle.upd_sql.specs.LibraryTables.{AnyTables}
+use Rattle.upd_sql.proofs.Common.{state, done, CardRow, card_row, AnyTables}
+use Rattle.upd_records.specs.Changes.{CardNew}
 use Rattle.upd_sql.proofs.Typed.{makes_from}
 use Rattle.upd_sql.proofs.WriteTexts.{insert_card}
 use Rattle.upd_sql.proofs.Effects.{card_added}

@@ -1,11 +1,4 @@
-use Rattle.std.proofs.Common.{[], ◌∷◌, ◌++◌, subst}
-use Rattle.sqlite_value.specs.Order.{Row}
-use Rattle.sqlite.specs.Held.{state}
-use Rattle.upd_sqlite.specs.Steps.{Ran}
-use Rattle.upd_records.specs.Rows.{CountRow}
-use Rattle.upd_sql.specs.Encoded.{num, count_row}
-use Rattle.upd_sql.specs.RowEdits.{with_count}
-use Rattle.upd_sql.specs.LibraryTables.{AnyTables}
+use Rattle.upd_sql.proofs.Common.{[], ◌∷◌, ◌++◌, subst, Row, state, Ran, CountRow, num, count_row, with_count, AnyTables}
 use Rattle.upd_sql.proofs.Typed.{makes_from}
 use Rattle.upd_sql.proofs.WriteTexts.{insert_count}
 use Rattle.upd_sql.proofs.Effects.{count_added}

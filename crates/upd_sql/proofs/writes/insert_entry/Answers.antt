@@ -1,8 +1,5 @@
-use Rattle.sqlite.specs.Held.{state}
-use Rattle.upd_records.specs.Changes.{done, EntryNew}
-use Rattle.upd_records.specs.Rows.{EntryRow}
-use Rattle.upd_sql.specs.Encoded.{entry_row}
-use Rattle.upd_sql.specs.LibraryTables.{AnyTables}
+use Rattle.upd_sql.proofs.Common.{state, done, EntryRow, entry_row, AnyTables}
+use Rattle.upd_records.specs.Changes.{EntryNew}
 use Rattle.upd_sql.proofs.Typed.{makes_from}
 use Rattle.upd_sql.proofs.WriteTexts.{insert_entry}
 use Rattle.upd_sql.proofs.Effects.{entry_added}

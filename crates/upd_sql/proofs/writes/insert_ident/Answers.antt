@@ -1,7 +1,5 @@
-use Rattle.sqlite.specs.Held.{state}
-use Rattle.upd_records.specs.Changes.{done, IdentNew}
-use Rattle.upd_sql.specs.Encoded.{ident_row}
-use Rattle.upd_sql.specs.LibraryTables.{AnyTables}
+use Rattle.upd_sql.proofs.Common.{state, done, ident_row, AnyTables}
+use Rattle.upd_records.specs.Changes.{IdentNew}
 use Rattle.upd_sql.proofs.Typed.{makes_from}
 use Rattle.upd_sql.proofs.WriteTexts.{insert_ident}
 use Rattle.upd_sql.proofs.Effects.{ident_added}

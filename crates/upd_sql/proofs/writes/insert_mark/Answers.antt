@@ -1,9 +1,4 @@
-use Rattle.std.proofs.Common.{refl}
-use Rattle.sqlite.specs.Held.{state}
-use Rattle.upd_records.specs.Rows.{MarkRow}
-use Rattle.upd_sql.specs.Encoded.{mark_row}
-use Rattle.upd_sql.specs.RowEdits.{with_mark}
-use Rattle.upd_sql.specs.LibraryTables.{AnyTables}
+use Rattle.upd_sql.proofs.Common.{refl, state, MarkRow, mark_row, with_mark, AnyTables}
 use Rattle.upd_sql.proofs.Typed.{makes_from, makes_nothing}
 use Rattle.upd_sql.proofs.WriteTexts.{insert_mark}
 use Rattle.upd_sql.proofs.Effects.{mark_added}

@@ -1,10 +1,4 @@
-use Rattle.std.proofs.Common.{subst, refl}
-use Rattle.sqlite.specs.Held.{state}
-use Rattle.upd_sqlite.specs.Steps.{Ran}
-use Rattle.upd_records.specs.Rows.{RunView}
-use Rattle.upd_row_store.specs.Tables.{with_run}
-use Rattle.upd_sql.specs.Encoded.{run_row}
-use Rattle.upd_sql.specs.LibraryTables.{AnyTables}
+use Rattle.upd_sql.proofs.Common.{subst, refl, state, Ran, RunView, with_run, run_row, AnyTables}
 use Rattle.upd_sql.proofs.Typed.{makes_from, makes_nothing}
 use Rattle.upd_sql.proofs.WriteTexts.{insert_run}
 use Rattle.upd_sql.proofs.Effects.{run_added}

@@ -1,8 +1,4 @@
-use Rattle.sqlite.specs.Held.{state}
-use Rattle.upd_records.specs.Rows.{StateRow}
-use Rattle.upd_sql.specs.Encoded.{state_row}
-use Rattle.upd_sql.specs.RowEdits.{with_state}
-use Rattle.upd_sql.specs.LibraryTables.{AnyTables}
+use Rattle.upd_sql.proofs.Common.{state, StateRow, state_row, with_state, AnyTables}
 use Rattle.upd_sql.proofs.Typed.{makes_from}
 use Rattle.upd_sql.proofs.WriteTexts.{insert_state}
 use Rattle.upd_sql.proofs.Effects.{state_added}

@@ -1,12 +1,5 @@
-use Rattle.std.proofs.Common.{◌∷◌, subst}
-use Rattle.sqlite_value.specs.declared.value.Value.TheVariants.{Text}
-use Rattle.sqlite_value.specs.Order.{Row}
-use Rattle.sqlite.specs.Held.{state}
-use Rattle.upd_sqlite.specs.Steps.{Ran}
-use Rattle.upd_records.specs.Changes.{done, TargetNew}
-use Rattle.upd_records.specs.Rows.{TargetRow}
-use Rattle.upd_sql.specs.Encoded.{num, target_row}
-use Rattle.upd_sql.specs.LibraryTables.{AnyTables}
+use Rattle.upd_sql.proofs.Common.{◌∷◌, subst, Text, Row, state, Ran, done, TargetRow, num, target_row, AnyTables}
+use Rattle.upd_records.specs.Changes.{TargetNew}
 use Rattle.upd_sql.proofs.Typed.{makes_from}
 use Rattle.upd_sql.proofs.WriteTexts.{insert_target}
 use Rattle.upd_sql.proofs.Effects.{target_added}

@@ -1,8 +1,4 @@
-use Rattle.std.proofs.Common.{List, ℕ, [], ◌∷◌, refl}
-use Rattle.sqlite_value.specs.declared.value.Value.TheVariants.{Text}
-use Rattle.sqlite.specs.Held.{state}
-use Rattle.upd_sql.specs.Encoded.{num}
-use Rattle.upd_sql.specs.RowEdits.{CanMoveOf, with_moved}
+use Rattle.upd_sql.proofs.Common.{List, ℕ, [], ◌∷◌, refl, Text, state, num, CanMoveOf, with_moved}
 use Rattle.upd_sql.proofs.Typed.{makes_from, makes_nothing}
 use Rattle.upd_sql.proofs.WriteTexts as text
 use Rattle.upd_sql.proofs.Effects.{cards_moved_of}

@@ -1,9 +1,4 @@
-use Rattle.std.proofs.Common.{◌≡◌, ℕ, ◌+◌, ◌-◌, negsuc, [], ◌∷◌, subst, arith, refl}
-use Rattle.sqlite.specs.Held.{state}
-use Rattle.upd_records.specs.Changes.{done, CardsMoved}
-use Rattle.upd_records.specs.Fits.{Fits}
-use Rattle.upd_sqlite.specs.Steps.{Ran}
-use Rattle.upd_sql.specs.Encoded.{num}
+use Rattle.upd_sql.proofs.Common.{◌≡◌, ℕ, ◌+◌, ◌-◌, negsuc, [], ◌∷◌, subst, arith, refl, state, done, CardsMoved, Fits, Ran, num}
 use Rattle.upd_sql.proofs.Typed.{makes_from, makes_nothing}
 use Rattle.upd_sql.proofs.WriteTexts as text
 use Rattle.upd_sql.proofs.Effects.{cards_moved_up}

@@ -1,8 +1,5 @@
-use Rattle.std.proofs.Common.{[], ◌∷◌}
-use Rattle.sqlite.specs.Held.{state}
-use Rattle.upd_records.specs.Changes.{done, IdentPurged}
-use Rattle.upd_sql.specs.Encoded.{num}
-use Rattle.upd_sql.specs.LibraryTables.{AnyTables}
+use Rattle.upd_sql.proofs.Common.{[], ◌∷◌, state, done, num, AnyTables}
+use Rattle.upd_records.specs.Changes.{IdentPurged}
 use Rattle.upd_sql.proofs.Typed.{makes_from}
 use Rattle.upd_sql.proofs.WriteTexts.{purge_ident}
 use Rattle.upd_sql.proofs.Effects.{ident_purged}

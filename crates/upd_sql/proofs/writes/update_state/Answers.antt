@@ -1,12 +1,5 @@
-use Rattle.std.proofs.Common.{ℕ, Result, Ok, Err, IfOk, IsTrue}
-use Rattle.sqlite.specs.declared.error.Error.{Error}
-use Rattle.sqlite.specs.Held.{state}
-use Rattle.sqlite.specs.State.{State, HasCleanDisk, Executes}
-use Rattle.upd_records.specs.Rows.{StateRow}
-use Rattle.upd_sql.specs.Commits.{CountsStatuses}
-use Rattle.upd_sql.specs.Encoded.{state_row}
-use Rattle.upd_sql.specs.RowEdits.{with_restated}
-use Rattle.upd_sql.specs.LibraryTables.{AnyTables}
+use Rattle.upd_sql.proofs.Common.{ℕ, Result, Ok, Err, IfOk, IsTrue, Error, state, State, HasCleanDisk, Executes, StateRow, CountsStatuses, state_row}
+use Rattle.upd_sql.proofs.Common.{with_restated, AnyTables}
 use Rattle.upd_sql.proofs.Typed.{makes_from}
 use Rattle.upd_sql.proofs.WriteTexts.{update_state}
 use Rattle.upd_sql.proofs.Effects.{state_restated, states_counted}

@@ -11,7 +11,8 @@ keeps : {X : Type 0} (items : X → List Row) (sql : List ℕ) (params : Row) (o
     → IfOk r (λ rows. Shown sql params old new (items rows)) → IfErr r (λ e. FailsToQuery sql params old new e ⊎ IsTooLate sql params old new e)
     → KeepsCommit old new
 keeps items sql params old new (Ok rows) inside ok err = shown_keeps sql params old new inside (items rows) ok
-keeps items sql params old new (Err e) inside ok err = elim err [ inl fails ↦ fails_keeps sql params old new inside e fails | inr late ↦ late_keeps sql params old new inside e late ]
+keeps items sql params old new (Err e) inside ok err =
+    elim err [ inl fails ↦ fails_keeps sql params old new inside e fails | inr late ↦ late_keeps sql params old new inside e late ]
 
 goes_on : {X : Type 0} (items : X → List Row) (sql : List ℕ) (params : Row) (old new : State) (r : Result X Error)
     → IfOk r (λ rows. Shown sql params old new (items rows))

@@ -1,4 +1,4 @@
-use Rattle.upd_row_store.specs.Keeping.{OfStore}
+use Rattle.upd_store.proofs.Common.{OfStore}
 use Rattle.upd_store.proofs.file.connect_with.Goals as goal
 
 pub returns-else-unwrap_or-clause-lost : goal.returns-else-unwrap_or-clause-lost

@@ -1,5 +1,4 @@
-use Rattle.std.proofs.Common.{arith}
-use Rattle.sqlite.specs.Files.{file_state}
+use Rattle.upd_store.proofs.Common.{arith, file_state}
 use Rattle.upd_store.proofs.file.create.Goals as goal
 
 pub returns-in-Ok-clause-empty : goal.returns-in-Ok-clause-empty

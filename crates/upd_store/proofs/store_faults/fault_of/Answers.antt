@@ -1,4 +1,4 @@
-use Rattle.upd_row_store.specs.Keeping.{OfStore}
+use Rattle.upd_store.proofs.Common.{OfStore}
 use Rattle.upd_store.proofs.store_faults.fault_of.Goals as goal
 
 pub returns-in_default-clause-lost : goal.returns-in_default-clause-lost

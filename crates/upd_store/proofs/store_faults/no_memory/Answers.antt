@@ -1,5 +1,4 @@
-use Rattle.std.proofs.Common.{ap, sym}
-use Rattle.upd_text.specs.declared.fault.Fault.{Fault}
+use Rattle.upd_store.proofs.Common.{ap, sym, Fault}
 use Rattle.upd_row_store.specs.Keeping.{OfMemory, failures_with}
 use Rattle.upd_store.proofs.store_faults.no_memory.Goals as goal
 

@@ -1,4 +1,4 @@
-use Rattle.upd_row_store.specs.Keeping.{OfStore}
+use Rattle.upd_store.proofs.Common.{OfStore}
 use Rattle.upd_store.proofs.store_faults.refused.Goals as goal
 
 pub returns-clause-lost : goal.returns-clause-lost

@@ -1,5 +1,4 @@
-use Rattle.std.proofs.Common.{ap, inr}
-use Rattle.upd_text.specs.declared.fault.Fault.{Fault}
+use Rattle.upd_store.proofs.Common.{ap, inr, Fault}
 use Rattle.upd_store.proofs.store_faults.store_at.Goals as goal
 
 pub returns-clause-unopened : goal.returns-clause-unopened

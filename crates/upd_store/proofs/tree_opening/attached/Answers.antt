@@ -1,23 +1,15 @@
-use Rattle.std.proofs.Common.{◌≡◌, IsTrue, length, map, sym, ap, ap₂, subst, subst₂, ◌∙◌}
+use Rattle.upd_store.proofs.Common.{◌≡◌, IsTrue, length, map, sym, ap, ap₂, subst, subst₂, ◌∙◌, length-map, seen_image, Table, in_use, Recovers}
+use Rattle.upd_store.proofs.Common.{recovers_once, rows_at, view, joined, file_trees, image, state_of, unrooted}
 use Rattle.std.proofs.Math.Logic.{∥∥₁_map}
 use Rattle.std.proofs.Math.Path.{subst₃}
 use Rattle.std.proofs.lemmas.Bool.{cond-true}
-use Rattle.std.proofs.lemmas.List.{length-map}
-use Rattle.sqlite_wal.specs.Files.{seen_image}
-use Rattle.sqlite_trees.specs.declared.store.Shape.TheVariants.{Table}
 use Rattle.sqlite_trees.specs.Tree.{no_trees}
 use Rattle.sqlite_trees.proofs.Doubt.{clean_of}
-use Rattle.sqlite_pool.specs.File.{in_use}
 use Rattle.sqlite_pool.specs.Pool
-use Rattle.sqlite_pool.specs.Stored.{Recovers}
-use Rattle.sqlite_pool.specs.StoredLaws.{recovers_once}
-use Rattle.sqlite_store.specs.Db.{rows_at}
-use Rattle.sqlite_store.specs.FileStore.{state, view}
-use Rattle.sqlite_store.specs.Joined.{joined}
-use Rattle.sqlite_store.specs.Listing.{IsOurs, file_trees}
+use Rattle.sqlite_store.specs.FileStore.{state}
+use Rattle.sqlite_store.specs.Listing.{IsOurs}
 use Rattle.sqlite_store.specs.Saved.{kept_schema}
-use Rattle.sqlite_store.specs.Unopened.{image, state_of, wanted_by}
-use Rattle.sqlite.specs.Opening.{unrooted}
+use Rattle.sqlite_store.specs.Unopened.{wanted_by}
 use Rattle.upd_store.proofs.tree_opening.attached.Goals as goal
 
 pub returns-in-Ok-open_numbered : goal.returns-in-Ok-open_numbered

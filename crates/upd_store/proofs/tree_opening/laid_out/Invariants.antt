@@ -1,5 +1,4 @@
-use Rattle.std.proofs.Common.{◌≡◌, length, map, take}
-use Rattle.sqlite.specs.Opening.{unrooted}
+use Rattle.upd_store.proofs.Common.{◌≡◌, length, map, take, unrooted}
 use Rattle.upd_store.proofs.tree_opening.laid_out.Given as goal
 
 abbrev pub invariant-loop-entry : goal.invariant-loop-entry

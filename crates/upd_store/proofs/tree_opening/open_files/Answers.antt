@@ -1,18 +1,10 @@
-use Rattle.std.proofs.Common.{◌≡◌, ◌≢◌, ◌≤◌, ◌%◌, sym, ap, subst, ◌∙◌, arith}
-use Rattle.std.proofs.lemmas.Option.{IfSome_then}
-use Rattle.sqlite_wal.specs.Files.{seen_image}
+use Rattle.upd_store.proofs.Common.{◌≡◌, ◌≢◌, ◌≤◌, ◌%◌, sym, ap, subst, ◌∙◌, arith, IfSome_then, seen_image, catalog_tree, Trees, View, IsClean, Lists, view}
+use Rattle.upd_store.proofs.Common.{image, state_of, HoldsDatabase, library_schema, FindsTrees}
 use Rattle.sqlite_wal.specs.Reads.{are_clean}
-use Rattle.sqlite_trees.specs.Objects.{catalog_tree}
-use Rattle.sqlite_trees.specs.Tree.{Trees}
-use Rattle.sqlite_trees.specs.View.{View, IsClean}
-use Rattle.sqlite_catalog.specs.Listing.{Lists}
-use Rattle.sqlite_store.specs.FileStore.{view}
-use Rattle.sqlite_store.specs.Unopened.{files_of, image, state_of}
-use Rattle.sqlite.specs.Files.{HoldsDatabase, image_of}
+use Rattle.sqlite_store.specs.Unopened.{files_of}
+use Rattle.sqlite.specs.Files.{image_of}
 use Rattle.sqlite.proofs.FileLemmas.{probe_size, same_image}
 use Rattle.sqlite.proofs.OpenLemmas.{pool_files}
-use Rattle.upd_sql.specs.Schema.{library_schema}
-use Rattle.upd_store.specs.TreeOpening.{FindsTrees}
 use Rattle.upd_store.proofs.TreeFound.{finds_trees}
 use Rattle.upd_store.proofs.tree_opening.open_files.Goals as goal
 

@@ -1,11 +1,6 @@
-use Rattle.std.proofs.Common.{◌≡◌, inl, inr, sym, ◌∙◌, ℕ, List, [], ◌∷◌, Ok, Err, IfOk, IsTrue, OnOk, Result}
-use Rattle.sqlite_value.specs.Order.{Row}
-use Rattle.sqlite.specs.declared.error.Error.{Error}
-use Rattle.sqlite.specs.Held.{state}
-use Rattle.sqlite.specs.State.{State, Shown}
+use Rattle.upd_store.proofs.Common.{◌≡◌, inl, inr, sym, ◌∙◌, ℕ, List, [], ◌∷◌, Ok, Err, IfOk, IsTrue, Result, Row, Error, state, State, Shown, num, HasVersion}
+use Rattle.std.proofs.Common.{OnOk}
 use Rattle.upd_sqlite.proofs.Answers.{shown_was_open}
-use Rattle.upd_sql.specs.Encoded.{num}
-use Rattle.upd_store.specs.Version.{HasVersion}
 use Rattle.upd_store.proofs.VersionLemmas.{version_shown, version_text}
 use Rattle.upd_store.proofs.version.version_in.Goals as goal
 

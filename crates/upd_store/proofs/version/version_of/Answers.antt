@@ -1,8 +1,6 @@
-use Rattle.std.proofs.Common.{◌≡◌, ℕ, Ok, IsTrue, true, refl, sym, subst, rules}
-use Rattle.sqlite.specs.Held.{state}
-use Rattle.sqlite.specs.State.{State, HasCleanDisk}
+use Rattle.upd_store.proofs.Common.{◌≡◌, ℕ, Ok, IsTrue, true, refl, sym, subst, rules, state, State, HasVersion}
+use Rattle.sqlite.specs.State.{HasCleanDisk}
 use Rattle.upd_sql.specs.Commits.{WasOpen}
-use Rattle.upd_store.specs.Version.{HasVersion}
 use Rattle.upd_store.proofs.version.version_of.Goals as goal
 
 -- outside a transaction what is there is what was committed

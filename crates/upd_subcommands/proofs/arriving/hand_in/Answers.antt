@@ -1,5 +1,4 @@
-use Rattle.std.proofs.Common.{inr, refl}
-use Rattle.std.proofs.KnownBytes.{Appends-nil}
+use Rattle.upd_subcommands.proofs.Common.{inr, refl, Appends-nil}
 use Rattle.upd_subcommands.proofs.FailingLemmas.{passed_unread}
 use Rattle.upd_subcommands.proofs.arriving.hand_in.Goals as goal
 

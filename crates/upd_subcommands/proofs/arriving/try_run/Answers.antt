@@ -1,6 +1,4 @@
-use Rattle.std.proofs.Common.{ℕ, List, Ok, Err, subst}
-use Rattle.std.proofs.KnownBytes.{Appends-nil}
-use Rattle.upd_subcommands.specs.Command.{ending}
+use Rattle.upd_subcommands.proofs.Common.{ℕ, List, Ok, Err, subst, Appends-nil, ending}
 use Rattle.upd_subcommands.specs.Reporting.{ReportsTried}
 use Rattle.upd_subcommands.proofs.FailingLemmas.{told_no_mistake}
 use Rattle.upd_subcommands.proofs.TriedLemmas.{tried_as}

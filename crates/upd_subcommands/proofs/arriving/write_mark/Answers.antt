@@ -1,4 +1,4 @@
-use Rattle.std.proofs.Common.{◌++◌, ◌∷◌, [], Ok, Err, refl, ap, ◌∙◌}
+use Rattle.upd_subcommands.proofs.Common.{◌++◌, ◌∷◌, [], Ok, Err, refl, ap, ◌∙◌}
 use Rattle.upd_subcommands.proofs.ReportingLemmas.{five_parts, mark_told}
 use Rattle.upd_subcommands.proofs.arriving.write_mark.Goals as goal
 

@@ -1,10 +1,4 @@
-use Rattle.std.proofs.Common.{ℕ, List, Ok, Err, subst}
-use Rattle.std.proofs.KnownBytes.{Appends-nil}
-use Rattle.upd_correct.specs.declared.refusal.Refusal.{Refusal}
-use Rattle.upd_edit.specs.declared.editing.EditError.{EditError}
-use Rattle.upd_edit.specs.declared.editing.EditError.TheVariants.{Failed, Refused}
-use Rattle.upd_subcommands.specs.Command.{ending}
-use Rattle.upd_subcommands.specs.Correcting.{IsRefusedBy, ReportsCorrection}
+use Rattle.upd_subcommands.proofs.Common.{ℕ, List, Ok, Err, subst, Appends-nil, Refusal, EditError, Failed, Refused, ending, IsRefusedBy, ReportsCorrection}
 use Rattle.upd_subcommands.specs.DeskCommands.{IsCorrection}
 use Rattle.upd_subcommands.proofs.correction_command.correct_text.Goals as goal
 
@@ -46,7 +40,8 @@ returns-in-Err-Failed-clause-reports g c =
       counts = c.in-Err-Failed.ensures.failed;
     } in (
       Err (Failed c.in-Err-Failed.fault),
-      subst (λ error. IsRight c.args.set.now error) c.in-Err-Failed.field-0-is (subst (λ set. IsRight set c.in-Err-Failed.field-0) c.as_bytes.ensures.value made),
+      subst (λ error. IsRight c.args.set.now error) c.in-Err-Failed.field-0-is
+          (subst (λ set. IsRight set c.in-Err-Failed.field-0) c.as_bytes.ensures.value made),
       (c.finish.ensures.reported, Appends-nil (g.W.Write.contents c.args.output.now)),
     )
 
@@ -69,6 +64,7 @@ returns-in-Err-Refused-clause-reports g c =
     λ refusals. IsRefusedBy refusals c.write_refusals.result (g.E.Write.contents c.args.faults.now)
     (g.E.Write.contents c.write_refusals.new.faults) in (
       Err (Refused c.in-Err-Refused.refusals),
-      subst (λ error. IsRight c.args.set.now error) c.in-Err-Refused.field-0-is (subst (λ set. IsRight set c.in-Err-Refused.field-0) c.as_bytes.ensures.value made),
+      subst (λ error. IsRight c.args.set.now error) c.in-Err-Refused.field-0-is
+          (subst (λ set. IsRight set c.in-Err-Refused.field-0) c.as_bytes.ensures.value made),
       (subst IsReported c.deref-in-Err-Refused.ensures.value c.write_refusals.ensures.reported, Appends-nil (g.W.Write.contents c.args.output.now)),
     )

@@ -1,7 +1,4 @@
-use Rattle.std.proofs.Common.{inr, subst}
-use Rattle.upd_text.specs.declared.fault.Fault.{Fault}
-use Rattle.upd_subcommands.specs.Command.{IsReported}
-use Rattle.upd_subcommands.specs.Status.{exit_status, fault_line}
+use Rattle.upd_subcommands.proofs.Common.{inr, subst, Fault, IsReported, exit_status, fault_line}
 use Rattle.upd_subcommands.proofs.correction_command.write_refusals.Goals as goal
 
 pub returns-clause-reported : goal.returns-clause-reported

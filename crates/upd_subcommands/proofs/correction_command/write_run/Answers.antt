@@ -1,5 +1,4 @@
-use Rattle.std.proofs.Common.{Ok, Err, refl}
-use Rattle.std.proofs.KnownBytes.{Appends-nil}
+use Rattle.upd_subcommands.proofs.Common.{Ok, Err, refl, Appends-nil}
 use Rattle.upd_subcommands.proofs.correction_command.write_run.Goals as goal
 
 pub returns-in-Ok-clause-reports : goal.returns-in-Ok-clause-reports

@@ -1,5 +1,4 @@
-use Rattle.std.proofs.Common.{[], Err, inr, refl, arith}
-use Rattle.std.proofs.KnownBytes.{Appends-nil}
+use Rattle.upd_subcommands.proofs.Common.{[], Err, inr, refl, arith, Appends-nil}
 use Rattle.upd_subcommands.proofs.desk_command.serve.Goals as goal
 
 pub returns-in-Ok-serve_on_within-clause-leads : goal.returns-in-Ok-serve_on_within-clause-leads

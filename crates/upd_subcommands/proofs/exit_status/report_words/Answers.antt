@@ -1,7 +1,4 @@
-use Rattle.std.proofs.Common.{subst}
-use Rattle.upd_text.specs.declared.fault.Fault.{Fault}
-use Rattle.upd_subcommands.specs.Command.{IsReported}
-use Rattle.upd_subcommands.specs.Status.{exit_status, fault_line}
+use Rattle.upd_subcommands.proofs.Common.{subst, Fault, IsReported, exit_status, fault_line}
 use Rattle.upd_subcommands.proofs.exit_status.report_words.Goals as goal
 
 pub returns-then-eq-clause-memory : goal.returns-then-eq-clause-memory

@@ -1,4 +1,4 @@
-use Rattle.std.proofs.Common.{ap, ◌∙◌, ◌++◌}
+use Rattle.upd_subcommands.proofs.Common.{ap, ◌∙◌, ◌++◌}
 use Rattle.upd_subcommands.specs.Listening.{listening_line}
 use Rattle.upd_wire.proofs.LineLemmas.{text_written}
 use Rattle.upd_subcommands.proofs.listening.line_of.Goals as goal

@@ -1,10 +1,6 @@
-use Rattle.std.proofs.Common.{ℕ, List, Ok, Err, inl, inr, subst, arith}
-use Rattle.std.proofs.KnownBytes.{Appends-nil}
-use Rattle.upd_text.specs.declared.fault.Fault.{Fault}
+use Rattle.upd_subcommands.proofs.Common.{ℕ, List, Ok, Err, inl, inr, subst, arith, Appends-nil, Fault, IsReported, ending, ReportsCorrection, exit_status}
+use Rattle.upd_subcommands.proofs.Common.{fault_line}
 use Rattle.upd_correct.specs.ListedRuns.{IsListedCause, IsListedRun}
-use Rattle.upd_subcommands.specs.Command.{IsReported, ending}
-use Rattle.upd_subcommands.specs.Correcting.{ReportsCorrection}
-use Rattle.upd_subcommands.specs.Status.{exit_status, fault_line}
 use Rattle.upd_subcommands.proofs.listing_file.correct_listing.Goals as goal
 
 pub returns-then-text-gt-MAX_TEXT_BYTES-clause-reports : goal.returns-then-text-gt-MAX_TEXT_BYTES-clause-reports

@@ -1,9 +1,6 @@
-use Rattle.std.proofs.Common.{sym, subst}
-use Rattle.upd_text.specs.declared.fault.Fault.{Fault}
+use Rattle.upd_subcommands.proofs.Common.{sym, subst, Fault, IsReported, exit_status, fault_line}
 use Rattle.upd_correct.specs.declared.listed_deck.ListedError.{ListedError}
-use Rattle.upd_subcommands.specs.Command.{IsReported}
 use Rattle.upd_subcommands.specs.ListingFile.{IsListedFault}
-use Rattle.upd_subcommands.specs.Status.{exit_status, fault_line}
 use Rattle.upd_subcommands.proofs.listing_file.write_listed_error.Goals as goal
 
 pub returns-in-NoMemory-clause-reported : goal.returns-in-NoMemory-clause-reported

@@ -1,6 +1,4 @@
-use Rattle.std.proofs.Common.{arith, inr, refl}
-use Rattle.std.proofs.lemmas.Grind.{common_steps}
-use Rattle.upd_wire.proofs.FrontLemmas.{front_same}
+use Rattle.upd_subcommands.proofs.Common.{arith, inr, refl, common_steps, front_same}
 use Rattle.upd_subcommands.specs.ListingFile.{place_line}
 use Rattle.upd_subcommands.proofs.listing_file.write_place.Goals as goal
 

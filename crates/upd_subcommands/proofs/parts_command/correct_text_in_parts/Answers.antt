@@ -1,10 +1,4 @@
-use Rattle.std.proofs.Common.{List, ℕ, Ok, Err, subst}
-use Rattle.std.proofs.KnownBytes.{Appends-nil}
-use Rattle.upd_correct.specs.declared.refusal.Refusal.{Refusal}
-use Rattle.upd_edit.specs.declared.editing.EditError.{EditError}
-use Rattle.upd_edit.specs.declared.editing.EditError.TheVariants.{Failed, Refused}
-use Rattle.upd_subcommands.specs.Command.{ending}
-use Rattle.upd_subcommands.specs.Correcting.{IsRefusedBy, ReportsCorrection}
+use Rattle.upd_subcommands.proofs.Common.{List, ℕ, Ok, Err, subst, Appends-nil, Refusal, EditError, Failed, Refused, ending, IsRefusedBy, ReportsCorrection}
 use Rattle.upd_subcommands.specs.Parts.{IsPartsAnswer}
 use Rattle.upd_subcommands.proofs.parts_command.correct_text_in_parts.Goals as goal
 

@@ -1,10 +1,7 @@
-use Rattle.std.proofs.Common.{◌≡◌, List, ℕ, Vec, Global, map, subst}
-use Rattle.std.specs.List.{AllByRecursion}
+use Rattle.upd_subcommands.proofs.Common.{◌≡◌, List, ℕ, Vec, Global, map, subst, AllByRecursion, frames_text, IsAdmitted, frames_from}
 use Rattle.upd_correct.specs.Parts.{CorrectsInParts}
 use Rattle.upd_desk.specs.Journal.{library_after}
 use Rattle.upd_edit.specs.EditCauses.{IsPartsRefusal}
-use Rattle.upd_wire.specs.Frames.{frames_text}
-use Rattle.upd_subcommands.specs.Parts.{IsAdmitted, frames_from}
 use Rattle.upd_subcommands.proofs.parts_command.spool_at.Goals as goal
 
 -- the bytes of runs

@@ -1,9 +1,6 @@
-use Rattle.std.proofs.Common.{◌≡◌, ◌+◌, ◌<◌, ◌++◌, ◌∷◌, [], List, ℕ, Vec, Global, get_or, length, map, take, sym, ap, ◌∙◌, subst, arith}
-use Rattle.std.specs.List.{AllByRecursion}
+use Rattle.upd_subcommands.proofs.Common.{◌≡◌, ◌+◌, ◌<◌, ◌++◌, ◌∷◌, [], List, ℕ, Vec, Global, get_or, length, map, take, sym, ap, ◌∙◌, subst, arith}
+use Rattle.upd_subcommands.proofs.Common.{AllByRecursion, arrival_view, frame_text, frames_text, IsAdmitted, frames_from}
 use Rattle.upd_correct.proofs.ListLemmas.{mapped_more, taken_count}
-use Rattle.upd_desk.specs.Arrivals.{arrival_view}
-use Rattle.upd_wire.specs.Frames.{frame_text, frames_text}
-use Rattle.upd_subcommands.specs.Parts.{IsAdmitted, frames_from}
 use Rattle.upd_subcommands.proofs.PartLemmas.{admitted_more, text_more}
 use Rattle.upd_subcommands.proofs.parts_command.spool_of.Goals as goal
 

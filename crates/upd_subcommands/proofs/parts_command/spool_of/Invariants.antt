@@ -1,7 +1,4 @@
-use Rattle.std.proofs.Common.{◌≡◌, ◌+◌, map, take}
-use Rattle.std.specs.List.{AllByRecursion}
-use Rattle.upd_wire.specs.Frames.{frames_text}
-use Rattle.upd_subcommands.specs.Parts.{IsAdmitted, frames_from}
+use Rattle.upd_subcommands.proofs.Common.{◌≡◌, ◌+◌, map, take, AllByRecursion, frames_text, IsAdmitted, frames_from}
 use Rattle.upd_subcommands.proofs.parts_command.spool_of.Given as goal
 
 abbrev pub invariant-loop-run : goal.invariant-loop-run

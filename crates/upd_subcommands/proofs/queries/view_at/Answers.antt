@@ -1,4 +1,4 @@
-use Rattle.std.proofs.Common.{Ok, Err, ◌∙◌}
+use Rattle.upd_subcommands.proofs.Common.{Ok, Err, ◌∙◌}
 use Rattle.upd_row_store.proofs.KeepingLemmas.{uncounted}
 use Rattle.upd_desk.proofs.QueryLemmas.{fails_owed}
 use Rattle.upd_edit.proofs.ToldLemmas.{none_told, shown_error, told_of}

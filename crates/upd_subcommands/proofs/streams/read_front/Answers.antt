@@ -1,4 +1,5 @@
-use Rattle.std.proofs.Common.{◌≡◌, length, vec_len, arith}
+use Rattle.upd_subcommands.proofs.Common.{◌≡◌, length, arith}
+use Rattle.std.proofs.Common.{vec_len}
 use Rattle.upd_subcommands.proofs.StreamLemmas.{few_taken, front_read_up_to, read_fails}
 use Rattle.upd_subcommands.proofs.streams.read_front.Goals as goal
 

@@ -1,4 +1,4 @@
-use Rattle.std.proofs.Common.{rules}
+use Rattle.upd_subcommands.proofs.Common.{rules}
 use Rattle.upd_subcommands.proofs.trial_run.trial.Goals as goal
 
 pub returns : goal.returns

@@ -1,10 +1,4 @@
-use Rattle.std.proofs.Common.{rules, ℕ, List, Result, Ok, sym, ◌∙◌, subst}
-use Rattle.upd_wire.proofs.InputLemmas.{some_input}
-use Rattle.upd_text.specs.declared.fault.Fault.{Fault}
-use Rattle.upd_text.specs.Outcome.{GivesAt}
-use Rattle.upd_compile.specs.File.{FileView}
-use Rattle.upd_subcommands.specs.Streams.{IsRunOn}
-use Rattle.upd_subcommands.specs.Trial.{trial_of}
+use Rattle.upd_subcommands.proofs.Common.{rules, ℕ, List, Result, Ok, sym, ◌∙◌, subst, some_input, Fault, GivesAt, FileView, IsRunOn, trial_of}
 use Rattle.upd_subcommands.proofs.CommandLemmas.{error_is}
 use Rattle.upd_subcommands.proofs.TrialLemmas.{given_of_front}
 use Rattle.upd_subcommands.proofs.trial_run.trial_of_input.Goals as goal

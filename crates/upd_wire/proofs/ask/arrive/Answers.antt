@@ -1,7 +1,4 @@
-use Rattle.std.proofs.Common.{inl, refl, Some}
-use Rattle.std.specs.Result.{result_map_both}
-use Rattle.upd_wire.specs.Calls.{run}
-use Rattle.upd_wire.specs.Responses.{reply_response}
+use Rattle.upd_wire.proofs.Common.{inl, refl, Some, result_map_both, run, reply_response}
 use Rattle.upd_wire.proofs.AskLemmas.{answered_fault, answered_told}
 use Rattle.upd_wire.proofs.ask.arrive.Goals as goal
 

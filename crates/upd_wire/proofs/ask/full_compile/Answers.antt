@@ -1,8 +1,5 @@
-use Rattle.std.proofs.Common.{inl, refl, ap, ◌∙◌, Some}
-use Rattle.std.specs.Result.{result_map_both}
+use Rattle.upd_wire.proofs.Common.{inl, refl, ap, ◌∙◌, Some, result_map_both, compile, page}
 use Rattle.upd_compile.specs.File.{FileView}
-use Rattle.upd_wire.specs.Calls.{compile}
-use Rattle.upd_wire.specs.Responses.{page}
 use Rattle.upd_wire.proofs.AskLemmas.{answered_fault, answered_told, fails_alike, seen_err, seen_ok}
 use Rattle.upd_wire.proofs.ask.full_compile.Goals as goal
 
@@ -11,7 +8,13 @@ returns-in-Ok g c =
     let result = result_map_both (λ (file : FileView). file) (λ fault. fault) c.full_compile.result in
     let told = result_map_both (λ (file : FileView). page file.bytes) (λ fault. fault) result in (
       Some (compile, told),
-      (result, c.full_compile.ensures.text, c.full_compile.ensures.leaves.same, fails_alike _ _ c.full_compile.result c.full_compile.ensures.leaves.failed, refl),
+      (
+        result,
+        c.full_compile.ensures.text,
+        c.full_compile.ensures.leaves.same,
+        fails_alike _ _ c.full_compile.result c.full_compile.ensures.leaves.failed,
+        refl,
+      ),
       inl (
         told,
         refl,
@@ -26,7 +29,13 @@ returns-in-Err g c =
     let result = result_map_both (λ (file : FileView). file) (λ fault. fault) c.full_compile.result in
     let told = result_map_both (λ (file : FileView). page file.bytes) (λ fault. fault) result in (
       Some (compile, told),
-      (result, c.full_compile.ensures.text, c.full_compile.ensures.leaves.same, fails_alike _ _ c.full_compile.result c.full_compile.ensures.leaves.failed, refl),
+      (
+        result,
+        c.full_compile.ensures.text,
+        c.full_compile.ensures.leaves.same,
+        fails_alike _ _ c.full_compile.result c.full_compile.ensures.leaves.failed,
+        refl,
+      ),
       inl (
         told,
         refl,

@@ -1,9 +1,5 @@
-use Rattle.std.proofs.Common.{ℕ, inl, inr, ap, refl, sym, subst, None, Some, Result, Ok, Err}
-use Rattle.upd_wire.specs.Calls.{settle}
-use Rattle.upd_text.specs.declared.fault.Fault.{Fault}
-use Rattle.upd_wire.specs.Responses.{Response}
-use Rattle.upd_wire.specs.Serving.{IsMarkResponse, no_memory}
-use Rattle.upd_wire.specs.AnswerViews.{answer_seen}
+use Rattle.upd_wire.proofs.Common.{ℕ, inl, inr, ap, refl, sym, subst, None, Some, Result, Ok, Err, settle, Fault, Response, IsMarkResponse, no_memory}
+use Rattle.upd_wire.proofs.Common.{answer_seen}
 use Rattle.upd_wire.specs.declared.http_status.Media.TheVariants.{Json}
 use Rattle.upd_wire.proofs.AskLemmas.{answered_fault}
 use Rattle.upd_wire.proofs.AnswerLemmas.{fault_is}

@@ -1,4 +1,4 @@
-use Rattle.std.proofs.Common.{◌++◌, ap₂, ◌∙◌}
+use Rattle.upd_wire.proofs.Common.{◌++◌, ap₂, ◌∙◌}
 use Rattle.upd_wire.proofs.AnswerHeadLemmas.{mark_text}
 use Rattle.upd_wire.proofs.ask.write_mark.Goals as goal
 

@@ -1,7 +1,4 @@
-use Rattle.std.proofs.Common.{inl, refl, Some}
-use Rattle.std.specs.Result.{result_map_both}
-use Rattle.upd_wire.specs.Calls.{yanks}
-use Rattle.upd_wire.specs.Responses.{page}
+use Rattle.upd_wire.proofs.Common.{inl, refl, Some, result_map_both, yanks, page}
 use Rattle.upd_wire.proofs.AskLemmas.{answered_fault, answered_told, fails_alike, seen_err, seen_ok}
 use Rattle.upd_wire.proofs.ask.yank_list.Goals as goal
 

@@ -1,6 +1,4 @@
-use Rattle.std.proofs.Common.{[], ◌∷◌, refl, arith}
-use Rattle.std.proofs.KnownBytes.{Appends-nil}
-use Rattle.upd_wire.specs.AnswerViews.{served_view}
+use Rattle.upd_wire.proofs.Common.{[], ◌∷◌, refl, arith, Appends-nil, served_view}
 use Rattle.upd_wire.proofs.AnswerLemmas.{lost_at_most}
 use Rattle.upd_wire.proofs.connections.serve_each.Goals as goal
 

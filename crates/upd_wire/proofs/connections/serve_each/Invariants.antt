@@ -1,6 +1,5 @@
-use Rattle.std.proofs.Common.{◌≡◌, ◌≤◌, List, length}
+use Rattle.upd_wire.proofs.Common.{◌≡◌, ◌≤◌, List, length, LeadsThrough, Made}
 use Rattle.upd_wire.specs.LogLines.{Logs, ServedView}
-use Rattle.upd_wire.specs.Serving.{LeadsThrough, Made}
 use Rattle.upd_wire.proofs.connections.serve_each.Given as goal
 
 abbrev pub invariant-connections : goal.invariant-connections

@@ -1,4 +1,4 @@
-use Rattle.std.proofs.Common.{arith, ◌<◌, ◌≤◌, ◌^◌, ℕ, lit<}
+use Rattle.upd_wire.proofs.Common.{arith, ◌<◌, ◌≤◌, ◌^◌, ℕ, lit<}
 use Rattle.std.proofs.Math.Nat.{pow-le-pow_right}
 use Rattle.upd_wire.proofs.digits.value_of.Goals as goal
 

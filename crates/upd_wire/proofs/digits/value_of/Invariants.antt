@@ -1,5 +1,4 @@
-use Rattle.std.proofs.Common.{◌≡◌, ◌<◌, ◌^◌, drop}
-use Rattle.upd_text.specs.Names.{number_behind}
+use Rattle.upd_wire.proofs.Common.{◌≡◌, ◌<◌, ◌^◌, drop, number_behind}
 use Rattle.upd_wire.proofs.digits.value_of.Given as goal
 
 abbrev pub invariant-loop-digit : goal.invariant-loop-digit

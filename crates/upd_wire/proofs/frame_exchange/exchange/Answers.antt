@@ -1,8 +1,5 @@
-use Rattle.std.proofs.Common.{◌∷◌, ◌++◌, [], sym, ap, ◌∙◌, refl, subst}
-use Rattle.upd_wire.specs.Header.{HeaderView, header_of, header_text}
-use Rattle.upd_wire.specs.Frames.{arrival_of}
-use Rattle.upd_wire.specs.Frames.IsBad.{no_header}
-use Rattle.upd_wire.specs.Exchange.{StopsRun}
+use Rattle.upd_wire.proofs.Common.{◌∷◌, ◌++◌, [], sym, ap, ◌∙◌, refl, subst, HeaderView, header_text, arrival_of, no_header, StopsRun}
+use Rattle.upd_wire.specs.Header.{header_of}
 use Rattle.upd_wire.proofs.ReadLemmas.{behind_header, error_is, frame_taken, header_found, run_stops}
 use Rattle.upd_wire.proofs.SpoolLemmas.{bad_stops, line_missing, line_out, stopped}
 use Rattle.upd_wire.proofs.frame_exchange.exchange.Goals as goal

@@ -1,4 +1,4 @@
-use Rattle.std.proofs.Common.{arith}
+use Rattle.upd_wire.proofs.Common.{arith}
 use Rattle.upd_wire.proofs.ReadLemmas.{error_is, failure_stops}
 use Rattle.upd_wire.proofs.frame_reads.read_bytes.Goals as goal
 

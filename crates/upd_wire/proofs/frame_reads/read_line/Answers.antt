@@ -1,5 +1,4 @@
-use Rattle.std.proofs.Common.{◌++◌, ◌∙◌, take, arith}
-use Rattle.std.proofs.KnownBytes.{Consumes-kept, Consumes-trans}
+use Rattle.upd_wire.proofs.Common.{◌++◌, ◌∙◌, take, arith, Consumes-kept, Consumes-trans}
 use Rattle.upd_wire.proofs.FrameLemmas.{no_lf_no_frame}
 use Rattle.upd_wire.proofs.ReadLemmas.{byte_without, long_is_bad}
 use Rattle.upd_wire.proofs.frame_reads.read_line.Goals as goal

@@ -1,6 +1,4 @@
-use Rattle.std.proofs.Common.{◌≡◌, ◌≤◌, ◌-◌, false, length}
-use Rattle.std.specs.Io.KnownBytes.{Consumes}
-use Rattle.upd_wire.specs.Frames.{has_lf}
+use Rattle.upd_wire.proofs.Common.{◌≡◌, ◌≤◌, ◌-◌, false, length, Consumes, has_lf}
 use Rattle.upd_wire.proofs.frame_reads.read_line.Given as goal
 
 abbrev pub invariant-line : goal.invariant-line

@@ -1,5 +1,4 @@
-use Rattle.std.proofs.Common.{◌++◌}
-use Rattle.std.proofs.KnownBytes.{Consumes-trans}
+use Rattle.upd_wire.proofs.Common.{◌++◌, Consumes-trans}
 use Rattle.upd_wire.proofs.ReadLemmas.{end_stops}
 use Rattle.upd_wire.proofs.frame_reads.read_run.Goals as goal
 

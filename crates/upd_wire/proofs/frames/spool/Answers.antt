@@ -1,7 +1,5 @@
-use Rattle.std.proofs.Common.{◌≡◌, ℕ, ◌+◌, List, ◌∷◌, ◌++◌, [], length, refl, sym, ap, ◌∙◌, arith, length-append}
-use Rattle.std.proofs.KnownBytes.{Consumes-nil}
-use Rattle.upd_desk.specs.Arrivals.{ArrivalView}
-use Rattle.upd_wire.specs.declared.frames.TheConstants.{MAX_FRAMES}
+use Rattle.upd_wire.proofs.Common.{◌≡◌, ℕ, ◌+◌, List, ◌∷◌, ◌++◌, [], length, refl, sym, ap, ◌∙◌, arith, Consumes-nil, ArrivalView, MAX_FRAMES}
+use Rattle.std.proofs.Common.{length-append}
 use Rattle.upd_wire.proofs.SpoolLemmas.{bytes_more, ends_at_most, ends_further, nothing_answered, one_more}
 use Rattle.upd_wire.proofs.frames.spool.Goals as goal
 

@@ -1,8 +1,4 @@
-use Rattle.std.proofs.Common.{◌≡◌, List, [], Result, length}
-use Rattle.upd_text.specs.declared.fault.Fault.{Fault}
-use Rattle.upd_desk.specs.Arrivals.{ArrivalView}
-use Rattle.upd_desk.specs.Outcomes.{ReplyView}
-use Rattle.upd_wire.specs.Spools.{Answered}
+use Rattle.upd_wire.proofs.Common.{◌≡◌, List, [], Result, length, Fault, ArrivalView, ReplyView, Answered}
 use Rattle.upd_wire.proofs.frames.spool.Given as goal
 
 abbrev pub invariant-loop-count : goal.invariant-loop-count

@@ -1,16 +1,11 @@
-use Rattle.std.proofs.Common.{◌≡◌, ◌≤◌, ◌++◌, inl, inr, refl, ap, sym, ◌∙◌, subst, length, take, arith, List, ℕ, Err}
-use Rattle.std.proofs.lemmas.List.{length-append, length-take-le}
-use Rattle.std.specs.Io.KnownBytes.{Consumes}
-use Rattle.httparse.specs.Spans.{RequestExceeds}
-use Rattle.upd_wire.specs.Inputs.{Begins, IsInput}
-use Rattle.upd_wire.specs.Requests.{RefusesHead}
-use Rattle.upd_wire.specs.declared.head.TheConstants.{MAX_HEAD_BYTES}
-use Rattle.std.proofs.KnownBytes.{Consumes-nil, Consumes-trans}
+use Rattle.upd_wire.proofs.Common.{◌≡◌, ◌≤◌, ◌++◌, inl, inr, refl, ap, sym, ◌∙◌, subst, length, take, arith, List, ℕ, Err, length-append, length-take-le}
+use Rattle.upd_wire.proofs.Common.{Consumes, RequestExceeds, Begins, IsInput, RefusesHead, MAX_HEAD_BYTES, Consumes-nil, Consumes-trans}
 use Rattle.upd_wire.proofs.HeadLemmas.{error_says, nothing_has_head, refused_bad, refused_by_failure}
 use Rattle.upd_wire.proofs.head.read_head.Goals as goal
 
 pub head-init : goal.head-init
-head-init g c = rw c.requires.empty (record { most = omega arith; consumed = Consumes-nil (g.R.Read.remaining c.args.reader.now); none = nothing_has_head; unfinished = inl refl })
+head-init g c = rw c.requires.empty
+    (record { most = omega arith; consumed = Consumes-nil (g.R.Read.remaining c.args.reader.now); none = nothing_has_head; unfinished = inl refl })
 
 pub returns-in-Err-parse_request-clause-err : goal.returns-in-Err-parse_request-clause-err
 returns-in-Err-parse_request-clause-err g c =

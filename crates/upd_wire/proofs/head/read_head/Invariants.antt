@@ -1,7 +1,5 @@
-use Rattle.std.proofs.Common.{◌≡◌, ◌≤◌, ◌⊎◌, ◌-◌, [], length}
-use Rattle.std.specs.Io.KnownBytes.{Consumes}
-use Rattle.httparse.specs.Grammar.{HasNoRequest, MayBecomeRequest}
-use Rattle.upd_wire.specs.declared.head.TheConstants.{MAX_HEAD_BYTES}
+use Rattle.upd_wire.proofs.Common.{◌≡◌, ◌≤◌, ◌⊎◌, ◌-◌, [], length, Consumes, HasNoRequest, MAX_HEAD_BYTES}
+use Rattle.httparse.specs.Grammar.{MayBecomeRequest}
 use Rattle.upd_wire.proofs.head.read_head.Given as goal
 
 abbrev pub invariant-head : goal.invariant-head

@@ -1,4 +1,4 @@
-use Rattle.std.proofs.Common.{sym, ◌∙◌}
+use Rattle.upd_wire.proofs.Common.{sym, ◌∙◌}
 use Rattle.upd_wire.proofs.HeaderLemmas.{word_read}
 use Rattle.upd_wire.proofs.header.read_word.Goals as goal
 

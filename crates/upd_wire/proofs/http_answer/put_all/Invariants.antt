@@ -1,5 +1,5 @@
-use Rattle.std.proofs.Common.{◌≡◌, ◌≤◌, ◌+◌, ◌++◌, drop, length, take, vec_capacity, vec_len}
-use Rattle.std.specs.List.{flat_map}
+use Rattle.upd_wire.proofs.Common.{◌≡◌, ◌≤◌, ◌+◌, ◌++◌, drop, length, take, vec_len, flat_map}
+use Rattle.std.proofs.Common.{vec_capacity}
 use Rattle.upd_wire.proofs.http_answer.put_all.Given as goal
 
 abbrev pub invariant-loop-part : goal.invariant-loop-part

@@ -1,10 +1,4 @@
-use Rattle.std.proofs.Common.{None, Err, Result, ℕ, List, refl, sym, subst}
-use Rattle.upd_wire.specs.Calls.{asked}
-use Rattle.upd_wire.specs.LogLines.{IsAskOf, asked_of}
-use Rattle.upd_wire.specs.Requests.{IsRead}
-use Rattle.upd_wire.specs.AnswerViews.{answer_seen}
-use Rattle.upd_wire.specs.declared.call.DeskCall.{DeskCall}
-use Rattle.upd_wire.specs.declared.call.Refusal.{Refusal}
+use Rattle.upd_wire.proofs.Common.{None, Err, Result, ℕ, List, refl, sym, subst, asked, IsAskOf, asked_of, IsRead, answer_seen, DeskCall, Refusal}
 use Rattle.upd_wire.proofs.AnswerLemmas.{answers_call, answers_refusal, asks_of}
 use Rattle.upd_wire.proofs.http_exchange.answer_request.Goals as goal
 

@@ -1,8 +1,5 @@
-use Rattle.std.proofs.Common.{None, Err, inl, inr, refl}
-use Rattle.std.proofs.KnownBytes.{Appends-nil}
+use Rattle.upd_wire.proofs.Common.{None, Err, inl, inr, refl, Appends-nil, no_memory, answer_seen}
 use Rattle.upd_wire.proofs.InputLemmas.{some_input}
-use Rattle.upd_wire.specs.Serving.{no_memory}
-use Rattle.upd_wire.specs.AnswerViews.{answer_seen}
 use Rattle.upd_wire.proofs.AnswerLemmas.{fault_is}
 use Rattle.upd_wire.proofs.http_exchange.serve_one.Goals as goal
 

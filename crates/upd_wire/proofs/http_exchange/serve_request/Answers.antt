@@ -1,9 +1,4 @@
-use Rattle.std.proofs.Common.{◌≡◌, None, Result, Err, inl, refl, sym, ap, subst}
-use Rattle.std.proofs.KnownBytes.{Appends-nil}
-use Rattle.upd_text.specs.declared.fault.Fault.{Fault}
-use Rattle.upd_wire.specs.LogLines.{ExchangeView}
-use Rattle.upd_wire.specs.Responses.{Response}
-use Rattle.upd_wire.specs.Serving.{Sends}
+use Rattle.upd_wire.proofs.Common.{◌≡◌, None, Result, Err, inl, refl, sym, ap, subst, Appends-nil, Fault, ExchangeView, Response, Sends}
 use Rattle.upd_wire.proofs.AnswerLemmas.{nothing_exchanged}
 use Rattle.upd_wire.proofs.InputLemmas.{some_input}
 use Rattle.upd_wire.proofs.http_exchange.serve_request.Goals as goal

@@ -1,4 +1,4 @@
-use Rattle.std.proofs.Common.{◌≡◌, drop, map}
+use Rattle.upd_wire.proofs.Common.{◌≡◌, drop, map}
 use Rattle.httparse.specs.Spans.{header_bytes}
 use Rattle.upd_wire.specs.Lengths.{both_say, fields_say}
 use Rattle.upd_wire.proofs.lengths.body_length.Given as goal

@@ -1,7 +1,5 @@
-use Rattle.std.proofs.Common.{◌≡◌, ◌≤◌, ◌<◌, ◌+◌, ◌*◌, ◌-◌, ◌∙◌, ap, refl, sym, arith, ℕ, length, drop, get_or, List, ◌∷◌, add-one}
-use Rattle.std.proofs.Math.Seq.{drop-cons}
-use Rattle.std.proofs.lemmas.Grind.{common_steps}
-use Rattle.upd_text.specs.Names.{number_behind}
+use Rattle.upd_wire.proofs.Common.{◌≡◌, ◌≤◌, ◌<◌, ◌+◌, ◌*◌, ◌-◌, ◌∙◌, ap, refl, sym, arith, ℕ, length, drop, get_or, List, ◌∷◌, add-one, drop-cons}
+use Rattle.upd_wire.proofs.Common.{common_steps, number_behind}
 use Rattle.upd_wire.proofs.LengthLemmas.{long-said, number_behind-least}
 use Rattle.upd_wire.proofs.lengths.read_length.Goals as goal
 

@@ -1,6 +1,4 @@
-use Rattle.std.proofs.Common.{◌≡◌, ◌≤◌, drop}
-use Rattle.upd_text.specs.Names.{number_behind}
-use Rattle.upd_text.specs.declared.limits.TheConstants.{MAX_RUN_BYTES}
+use Rattle.upd_wire.proofs.Common.{◌≡◌, ◌≤◌, drop, number_behind, MAX_RUN_BYTES}
 use Rattle.upd_wire.proofs.lengths.read_length.Given as goal
 
 abbrev pub invariant-digits : goal.invariant-digits

@@ -1,8 +1,7 @@
-use Rattle.std.proofs.Common.{◌≡◌, ℕ, List, ◌∷◌, ◌++◌, append_assoc, ap, ◌∙◌}
+use Rattle.upd_wire.proofs.Common.{◌≡◌, ℕ, List, ◌∷◌, ◌++◌, append_assoc, ap, ◌∙◌, served_view, piece}
 use Rattle.std.specs.Prelude.{codes, decimal}
 use Rattle.percent_encoding.specs.Iter.{encoded_text}
-use Rattle.upd_wire.specs.AnswerViews.{served_view}
-use Rattle.upd_wire.specs.LogLines.{field, number_of, outcome, piece, site_of, status_of}
+use Rattle.upd_wire.specs.LogLines.{field, number_of, outcome, site_of, status_of}
 use Rattle.upd_wire.proofs.LineLemmas.{text_written}
 use Rattle.upd_wire.proofs.log_lines.line_of.Goals as goal
 

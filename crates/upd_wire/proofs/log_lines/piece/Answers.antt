@@ -1,6 +1,5 @@
-use Rattle.std.proofs.Common.{◌≡◌, ◌==◌, ◌+◌, ◌-◌, ◌<◌, ℕ, zero, suc, List, [], ◌∷◌, get_or, sym, ap, ◌∙◌, arith}
+use Rattle.upd_wire.proofs.Common.{◌≡◌, ◌==◌, ◌+◌, ◌-◌, ◌<◌, ℕ, zero, suc, List, [], ◌∷◌, get_or, sym, ap, ◌∙◌, arith, piece}
 use Rattle.std.specs.List.{slice_split}
-use Rattle.upd_wire.specs.LogLines.{piece}
 use Rattle.upd_wire.proofs.log_lines.piece.Goals as goal
 
 -- the pieces after the first one

@@ -1,5 +1,4 @@
-use Rattle.std.proofs.Common.{◌≡◌, ◌+◌, ℕ}
-use Rattle.upd_wire.specs.LogLines.{piece}
+use Rattle.upd_wire.proofs.Common.{◌≡◌, ◌+◌, ℕ, piece}
 use Rattle.upd_wire.proofs.log_lines.piece.Given as goal
 
 abbrev pub invariant-pieces : goal.invariant-pieces

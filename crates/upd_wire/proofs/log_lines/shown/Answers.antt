@@ -1,6 +1,5 @@
-use Rattle.std.proofs.Common.{sym, ◌∙◌, arith}
+use Rattle.upd_wire.proofs.Common.{sym, ◌∙◌, arith, length-take-le, take_all}
 use Rattle.std.proofs.lemmas.Bool.{cond-false}
-use Rattle.std.proofs.lemmas.List.{length-take-le, take_all}
 use Rattle.upd_wire.specs.declared.log_lines.TheConstants.{MAX_FIELD}
 use Rattle.upd_wire.proofs.log_lines.shown.Goals as goal
 

@@ -1,6 +1,4 @@
-use Rattle.std.proofs.Common.{arith}
-use Rattle.std.proofs.lemmas.Grind.{common_steps}
-use Rattle.upd_wire.specs.AnswerViews.{served_view}
+use Rattle.upd_wire.proofs.Common.{arith, common_steps, served_view}
 use Rattle.upd_wire.specs.LogLines.{log_line}
 use Rattle.upd_wire.proofs.FrontLemmas.{front_same}
 use Rattle.upd_wire.proofs.log_lines.write_line.Goals as goal

@@ -1,6 +1,4 @@
-use Rattle.std.proofs.Common.{◌++◌, ◌+◌, ◌≤◌, ◌≡◌, ◌∙◌, ap, length, take, vec_len, arith}
-use Rattle.std.proofs.lemmas.List.{length-append, length-take-le}
-use Rattle.std.proofs.KnownBytes.{Consumes-kept, Consumes-trans}
+use Rattle.upd_wire.proofs.Common.{◌++◌, ◌+◌, ◌≤◌, ◌≡◌, ◌∙◌, ap, length, take, vec_len, arith, length-append, length-take-le, Consumes-kept, Consumes-trans}
 use Rattle.upd_wire.proofs.reading.read_up_to.Goals as goal
 
 pub returns-then-is_err-clause-front : goal.returns-then-is_err-clause-front

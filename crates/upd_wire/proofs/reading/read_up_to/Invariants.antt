@@ -1,5 +1,4 @@
-use Rattle.std.proofs.Common.{◌≡◌, ◌≤◌, ◌-◌, ◌++◌, ℕ, List, vec_len}
-use Rattle.std.specs.Io.KnownBytes.{Consumes}
+use Rattle.upd_wire.proofs.Common.{◌≡◌, ◌≤◌, ◌-◌, ◌++◌, ℕ, List, vec_len, Consumes}
 use Rattle.upd_wire.proofs.reading.read_up_to.Given as goal
 
 abbrev pub invariant-input : goal.invariant-input

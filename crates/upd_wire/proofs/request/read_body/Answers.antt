@@ -1,4 +1,4 @@
-use Rattle.std.proofs.Common.{rules, ◌≡◌, ◌++◌, inl, inr, length, ap, ◌∙◌, arith}
+use Rattle.upd_wire.proofs.Common.{rules, ◌≡◌, ◌++◌, inl, inr, length, ap, ◌∙◌, arith}
 use Rattle.upd_wire.proofs.InputLemmas.{input_behind, some_input}
 use Rattle.upd_wire.proofs.RequestLemmas.{whole_body}
 use Rattle.upd_wire.proofs.request.read_body.Goals as goal

@@ -1,12 +1,7 @@
-use Rattle.std.proofs.Common.{ap, sym, refl, ◌∙◌, subst, drop, List, ℕ, ◌++◌, Result, Vec, Global}
-use Rattle.std.proofs.lemmas.List.{take_rest}
-use Rattle.httparse.specs.Spans.{IsRequestAt}
+use Rattle.upd_wire.proofs.Common.{ap, sym, refl, ◌∙◌, subst, drop, List, ℕ, ◌++◌, Result, take_rest, IsRequestAt, asked, IsRead, DeskCall, Refusal}
+use Rattle.std.proofs.Common.{Vec, Global}
 use Rattle.upd_wire.proofs.InputLemmas.{input_behind, some_input}
-use Rattle.upd_wire.specs.Calls.{asked}
-use Rattle.upd_wire.specs.Requests.{IsRead}
 use Rattle.upd_wire.specs.RequestViews.{head_view}
-use Rattle.upd_wire.specs.declared.call.DeskCall.{DeskCall}
-use Rattle.upd_wire.specs.declared.call.Refusal.{Refusal}
 use Rattle.upd_wire.proofs.RequestLemmas.{HasRead, body_refused, call_read, checked_refused, error_is}
 use Rattle.upd_wire.proofs.request.read_request.Goals as goal
 

@@ -1,5 +1,4 @@
-use Rattle.std.proofs.Common.{◌++◌, take}
-use Rattle.std.proofs.KnownBytes.{Appends-trans}
+use Rattle.upd_wire.proofs.Common.{◌++◌, take, Appends-trans}
 use Rattle.upd_wire.proofs.FrontLemmas.{front_further}
 use Rattle.upd_wire.proofs.writing.write_part.Goals as goal
 

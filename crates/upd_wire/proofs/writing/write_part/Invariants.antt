@@ -1,5 +1,4 @@
-use Rattle.std.proofs.Common.{◌≡◌, ◌++◌, ℕ, List, length}
-use Rattle.std.specs.Io.KnownBytes.{Appends}
+use Rattle.upd_wire.proofs.Common.{◌≡◌, ◌++◌, ℕ, List, length, Appends}
 use Rattle.upd_wire.proofs.writing.write_part.Given as goal
 
 abbrev pub invariant-output : goal.invariant-output

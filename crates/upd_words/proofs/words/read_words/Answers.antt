@@ -1,4 +1,5 @@
-use Rattle.std.proofs.Common.{◌≡◌, ◌≢◌, ◌⊎◌, List, [], inl, inr, refl, ap, sym, ◌∙◌, subst, true, map, IfErr, IfOk, IfSome, IsSomeAnd, Option, Some, None, Result, Ok, Err}
+use Rattle.std.proofs.Common.{◌≡◌, ◌≢◌, ◌⊎◌, List, [], inl, inr, refl, ap, sym, ◌∙◌, subst, true, map, IfErr, IfOk, IfSome, IsSomeAnd, Option, Some, None}
+use Rattle.std.proofs.Common.{Result, Ok, Err}
 use Rattle.std.proofs.lemmas.Result.{IfOk-weaker}
 use Rattle.clap.specs.Walk.{Row}
 use Rattle.clap.specs.Words.{App, HasKind, IsAmong, Text, app_of, fault_of, is_simple, is_simple_and_free, kind_of, subcommand_of, subcommand_rows_of}
@@ -24,7 +25,8 @@ read_command : (words : List Text) (command : Option (Text × List Row)) (result
 read_command words command (Ok request) same none is = (inl (none, rw same is), tt)
 read_command words command (Err fault) same none is = (tt, inr (none, rw same is))
 
-asked_told : (words : List Text) (kind : ErrorKind) (request : Request) → IsAmong kind (word_faults words) → IsUnreadRequest kind request → IsAskedFor words request
+asked_told : (words : List Text) (kind : ErrorKind) (request : Request) → IsAmong kind (word_faults words) → IsUnreadRequest kind request
+    → IsAskedFor words request
 asked_told words kind request among is = inr (kind, among, is)
 
 among : (kind : ErrorKind) (kinds : List ErrorKind) → (kind ≡ OutOfMemory) ⊎ IsAmong kind kinds → kind ≢ OutOfMemory → IsAmong kind kinds
@@ -81,4 +83,5 @@ returns-in-Err-clause-ok g c =
     let kinds : HasKind (word_faults words) c.in-Err.error =
     let P : App → Type 0 = λ a. HasKind (fault_of a words) c.in-Err.error in
     subst P app_is (c.in-Err.ensures.kinds (ap is_simple_and_free app_is ∙ is_free_upd)) in
-    IfOk-weaker c.unread_request.result _ _ (λ request is. asked_told words (kind_of c.in-Err.error) request (among _ _ kinds is.0) is.1) c.unread_request.ensures.ok
+    IfOk-weaker c.unread_request.result _ _
+    (λ request is. asked_told words (kind_of c.in-Err.error) request (among _ _ kinds is.0) is.1) c.unread_request.ensures.ok

@@ -1,11 +1,6 @@
-use Rattle.std.proofs.Common.{ℕ, if◌then◌else◌, take, get_or, ap, sym, ◌∙◌}
+use Rattle.upd_yank.proofs.Common.{ℕ, if◌then◌else◌, take, get_or, ap, sym, ◌∙◌, Target, Set, count_in, is_same, put_counts}
 use Rattle.std.proofs.lemmas.List.{take_more}
-use Rattle.upd_core.specs.declared.target.Target.{Target}
-use Rattle.upd_core.specs.declared.target.Target.TheVariants.{Set}
-use Rattle.upd_core.specs.TargetCounts.{count_in}
-use Rattle.upd_core.specs.Targets.{is_same}
 use Rattle.upd_yank.proofs.RowLemmas.{put_more}
-use Rattle.upd_yank.specs.Right.{put_counts}
 use Rattle.upd_yank.proofs.cache.put_counts.Goals as goal
 
 pub loop-target-preserved : goal.loop-target-preserved

@@ -1,7 +1,4 @@
-use Rattle.std.proofs.Common.{◌≡◌, take}
-use Rattle.upd_core.specs.declared.target.Target.{Target}
-use Rattle.upd_core.specs.TargetCounts.{count_in}
-use Rattle.upd_yank.specs.Right.{put_counts}
+use Rattle.upd_yank.proofs.Common.{◌≡◌, take, Target, count_in, put_counts}
 use Rattle.upd_yank.proofs.cache.put_counts.Given as goal
 
 abbrev pub invariant-loop-target : goal.invariant-loop-target

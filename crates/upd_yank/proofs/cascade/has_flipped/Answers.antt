@@ -1,5 +1,4 @@
-use Rattle.std.proofs.Common.{arith}
-use Rattle.std.proofs.lemmas.Grind.{common_steps}
+use Rattle.upd_yank.proofs.Common.{arith, common_steps}
 use Rattle.upd_yank.proofs.UnflippedLemmas.{some_flipped}
 use Rattle.upd_yank.proofs.cascade.has_flipped.Goals as goal
 use Rattle.upd_yank.proofs.cascade.has_flipped.Goals.{then-has_flipped_of, else-has_flipped_of}

@@ -1,7 +1,4 @@
-use Rattle.std.proofs.Common.{◌≡◌, drop}
-use Rattle.std.specs.List.{list_any}
-use Rattle.upd_core.specs.Reach.{is_flipped}
-use Rattle.upd_core.specs.TargetCounts.{count_in}
+use Rattle.upd_yank.proofs.Common.{◌≡◌, drop, list_any, is_flipped, count_in}
 use Rattle.upd_yank.proofs.cascade.has_flipped_of.Given as goal
 
 abbrev pub invariant-loop-target : goal.invariant-loop-target

@@ -1,10 +1,6 @@
-use Rattle.std.proofs.Common.{◌≡◌, ◌∙◌, false, arith}
-use Rattle.std.proofs.lemmas.Grind.{common_steps}
-use Rattle.upd_core.specs.TargetCounts.{count_in}
+use Rattle.upd_yank.proofs.Common.{◌≡◌, ◌∙◌, false, arith, common_steps, count_in, is_touched, found_of, is_due}
 use Rattle.upd_yank.proofs.TurnLemmas.{others_more, read_more}
 use Rattle.upd_yank.proofs.UnflippedLemmas.{none_found, none_told}
-use Rattle.upd_yank.specs.Affected.{is_touched}
-use Rattle.upd_yank.specs.Cascade.{found_of, is_due}
 use Rattle.upd_yank.proofs.cascade.judge_others.Goals as goal
 
 pub loop-card-preserved : goal.loop-card-preserved
@@ -15,7 +11,8 @@ loop-card-preserved c =
     let k = c.card-item.result in
     let statuses = rw c.loop-card.invariant.counts at c.in_ok-judge_if_due.ensures.statuses in
     let reads = rw c.loop-card.invariant.counts at c.in_ok-judge_if_due.ensures.reads in
-    let more = read_more (is_due touched before now k) c.loop-card.counted c.judge_if_due.new.counted c.loop-card.found.statuses.items c.judge_if_due.new.found.statuses.items
+    let more = read_more (is_due touched before now k) c.loop-card.counted c.judge_if_due.new.counted c.loop-card.found.statuses.items
+    c.judge_if_due.new.found.statuses.items
     (found_of now k) reads statuses in
     record {
       counts = c.in_ok-judge_if_due.ensures.counts ∙ c.loop-card.invariant.counts;

@@ -1,7 +1,4 @@
-use Rattle.std.proofs.Common.{◌≡◌, ◌+◌, ◌<◌, ◌≤◌, ◌^◌, ◌++◌, length, drop}
-use Rattle.upd_core.specs.TargetCounts.{count_in}
-use Rattle.upd_yank.specs.Affected.{is_touched}
-use Rattle.upd_yank.specs.Cascade.{found_others}
+use Rattle.upd_yank.proofs.Common.{◌≡◌, ◌+◌, ◌<◌, ◌≤◌, ◌^◌, ◌++◌, length, drop, count_in, is_touched, found_others}
 use Rattle.upd_yank.proofs.cascade.judge_others.Given as goal
 
 abbrev pub invariant-loop-card : goal.invariant-loop-card

@@ -1,7 +1,5 @@
-use Rattle.std.proofs.Common.{◌≡◌, inr, arith}
-use Rattle.std.proofs.lemmas.Grind.{common_steps}
+use Rattle.upd_yank.proofs.Common.{◌≡◌, inr, arith, common_steps, kept_status}
 use Rattle.upd_yank.proofs.LeftLemmas.{left_statuses}
-use Rattle.upd_yank.specs.Right.{kept_status}
 use Rattle.upd_yank.proofs.cascade.put_found.Goals as goal
 
 pub returns : goal.returns

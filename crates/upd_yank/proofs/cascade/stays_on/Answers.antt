@@ -1,8 +1,5 @@
-use Rattle.std.proofs.Common.{false, arith}
-use Rattle.std.proofs.lemmas.Grind.{common_steps}
+use Rattle.upd_yank.proofs.Common.{false, arith, common_steps, count_in, is_taken_by}
 use Rattle.upd_core.proofs.StatusLaws.{stays_on-take}
-use Rattle.upd_core.specs.TargetCounts.{count_in}
-use Rattle.upd_yank.specs.Cascade.{is_taken_by}
 use Rattle.upd_yank.proofs.cascade.stays_on.Goals as goal
 
 pub returns-then-not-is_taken : goal.returns-then-not-is_taken

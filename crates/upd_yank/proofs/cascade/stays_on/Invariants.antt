@@ -1,7 +1,4 @@
-use Rattle.std.proofs.Common.{◌≡◌, take}
-use Rattle.upd_core.specs.Status.{stays_on}
-use Rattle.upd_core.specs.TargetCounts.{count_in}
-use Rattle.upd_yank.specs.Cascade.{is_taken_by}
+use Rattle.upd_yank.proofs.Common.{◌≡◌, take, stays_on, count_in, is_taken_by}
 use Rattle.upd_yank.proofs.cascade.stays_on.Given as goal
 
 abbrev pub invariant-loop-i : goal.invariant-loop-i

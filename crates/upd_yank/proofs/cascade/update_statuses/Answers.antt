@@ -1,12 +1,7 @@
-use Rattle.std.proofs.Common.{ap, sym, ◌∙◌, subst}
-use Rattle.upd_core.specs.declared.library.Rest.{Rest}
-use Rattle.upd_core.specs.TargetCounts.{count_in, count_on}
+use Rattle.upd_yank.proofs.Common.{ap, sym, ◌∙◌, subst, Rest, count_in, count_on, is_touched, others_of, yanks_of, ArePut, live_now, views, AreCountable}
+use Rattle.upd_yank.proofs.Common.{kept_status, was_active}
 use Rattle.upd_yank.proofs.LeftLemmas.{left_found}
 use Rattle.upd_yank.proofs.SoundCascadeLemmas.{views_are}
-use Rattle.upd_yank.specs.Affected.{is_touched}
-use Rattle.upd_core.specs.Counted.{others_of, yanks_of}
-use Rattle.upd_yank.specs.Cascade.{ArePut, live_now, views}
-use Rattle.upd_yank.specs.Right.{AreCountable, kept_status, was_active}
 use Rattle.upd_yank.proofs.cascade.update_statuses.Goals as goal
 
 pub returns-clause-counts : goal.returns-clause-counts

@@ -1,9 +1,5 @@
-use Rattle.std.proofs.Common.{◌≡◌, ◌+◌, ◌<◌, ◌≤◌, ◌^◌, length, drop}
-use Rattle.upd_core.specs.declared.target.Target.{Target}
-use Rattle.upd_core.specs.TargetCounts.{count_in, count_on}
-use Rattle.upd_yank.specs.Affected.{is_touched}
-use Rattle.upd_yank.specs.Cascade.{found_yanks, live_now, views}
-use Rattle.upd_yank.specs.Right.{AreCountable, was_active}
+use Rattle.upd_yank.proofs.Common.{◌≡◌, ◌+◌, ◌<◌, ◌≤◌, ◌^◌, length, drop, Target, count_in, count_on, is_touched, found_yanks, live_now, views, AreCountable}
+use Rattle.upd_yank.proofs.Common.{was_active}
 use Rattle.upd_yank.proofs.cascade.update_yanks.Given as goal
 
 abbrev pub invariant-loop-i : goal.invariant-loop-i
@@ -12,6 +8,7 @@ invariant-loop-i l = record {
       ≡ count_on (live_now (is_touched l.before.touched.now) (was_active l.before.statuses.now) (count_in l.before.counts.now) (drop l.i l.yanks)) t;
   statuses : AreCountable (views l.yanks) → l.found.statuses.items
       ≡ found_yanks (is_touched l.before.touched.now) (was_active l.before.statuses.now) (count_in l.before.counts.now) (drop l.i l.yanks);
-  reads : l.initial.counted.histories_read + length l.yanks < 2 ^ 64 → l.counted.histories_read ≡ l.initial.counted.histories_read + length l.found.statuses.items;
+  reads : l.initial.counted.histories_read + length l.yanks < 2 ^ 64 → l.counted.histories_read
+      ≡ l.initial.counted.histories_read + length l.found.statuses.items;
   few : length l.found.statuses.items + l.i ≤ length l.yanks;
 }

@@ -1,6 +1,4 @@
-use Rattle.std.proofs.Common.{◌≡◌, drop}
-use Rattle.std.specs.List.{find}
-use Rattle.upd_yank.specs.Renewed.{is_active_deck}
+use Rattle.upd_yank.proofs.Common.{◌≡◌, drop, find, is_active_deck}
 use Rattle.upd_yank.proofs.renewing.active_deck_aged.Given as goal
 
 abbrev pub invariant-loop-deck : goal.invariant-loop-deck

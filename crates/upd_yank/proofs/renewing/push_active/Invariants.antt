@@ -1,8 +1,4 @@
-use Rattle.std.proofs.Common.{◌≡◌, ◌++◌, map, take}
-use Rattle.std.specs.List.{filter}
-use Rattle.upd_core.specs.Actives.{without_past}
-use Rattle.upd_core.specs.Counted.{counted_card}
-use Rattle.upd_yank.specs.Right.{was_active}
+use Rattle.upd_yank.proofs.Common.{◌≡◌, ◌++◌, map, take, filter, without_past, counted_card, was_active}
 use Rattle.upd_yank.proofs.renewing.push_active.Given as goal
 
 abbrev pub invariant-loop-card : goal.invariant-loop-card

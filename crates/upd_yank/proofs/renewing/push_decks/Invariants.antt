@@ -1,5 +1,4 @@
-use Rattle.std.proofs.Common.{◌≡◌, ◌++◌, drop}
-use Rattle.std.specs.List.{flat_map}
+use Rattle.upd_yank.proofs.Common.{◌≡◌, ◌++◌, drop, flat_map}
 use Rattle.upd_yank.specs.Renewed.{deck_renewed}
 use Rattle.upd_yank.proofs.renewing.push_decks.Given as goal
 

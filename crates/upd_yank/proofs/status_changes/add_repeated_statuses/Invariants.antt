@@ -1,7 +1,4 @@
-use Rattle.std.proofs.Common.{◌≡◌, ◌++◌, map, drop}
-use Rattle.upd_records.specs.Changes.{change_view}
-use Rattle.upd_yank.specs.Right.{kept_status}
-use Rattle.upd_yank.specs.StatusChanges.{all_repeated_statuses}
+use Rattle.upd_yank.proofs.Common.{◌≡◌, ◌++◌, map, drop, change_view, kept_status, all_repeated_statuses}
 use Rattle.upd_yank.proofs.status_changes.add_repeated_statuses.Given as goal
 
 abbrev pub invariant-loop-change : goal.invariant-loop-change

@@ -1,8 +1,4 @@
-use Rattle.std.proofs.Common.{◌≡◌, ◌++◌, map, drop}
-use Rattle.std.specs.List.{flat_map}
-use Rattle.upd_records.specs.Changes.{change_view}
-use Rattle.upd_core.specs.TargetCounts.{count_in}
-use Rattle.upd_yank.specs.StatusChanges.{zero_changes}
+use Rattle.upd_yank.proofs.Common.{◌≡◌, ◌++◌, map, drop, flat_map, change_view, count_in, zero_changes}
 use Rattle.upd_yank.proofs.status_changes.add_zero_changes.Given as goal
 
 abbrev pub invariant-loop-target : goal.invariant-loop-target

@@ -1,8 +1,4 @@
-use Rattle.std.proofs.Common.{◌≡◌, ◌∙◌, sym, slice_get, arith}
-use Rattle.std.specs.Option.{option_and_then, option_copied}
-use Rattle.std.proofs.lemmas.Grind.{common_steps}
-use Rattle.std.proofs.lemmas.Option.{gets}
-use Rattle.upd_compile.specs.Positions.{position_named}
+use Rattle.upd_compile.proofs.Common.{◌≡◌, ◌∙◌, sym, slice_get, arith, option_and_then, option_copied, common_steps, gets, position_named}
 use Rattle.upd_compile.proofs.PositionLemmas.{common_named-position}
 use Rattle.upd_compile.proofs.indexed.Indexed.common_named.Goals as goal
 

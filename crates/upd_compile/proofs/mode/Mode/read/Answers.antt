@@ -1,4 +1,4 @@
-use Rattle.std.proofs.Common.{rules}
+use Rattle.upd_compile.proofs.Common.{rules}
 use Rattle.upd_compile.proofs.mode.Mode.read.Goals as goal
 
 pub returns-in-quick : goal.returns-in-quick

@@ -1,5 +1,4 @@
-use Rattle.std.proofs.Common.{◌≡◌, ◌+◌, length, ap, rules, sym, ◌∙◌}
-use Rattle.std.proofs.lemmas.List.{length-append}
+use Rattle.upd_core.proofs.Common.{◌≡◌, ◌+◌, length, ap, rules, sym, ◌∙◌, length-append}
 use Rattle.upd_core.proofs.ActiveLemmas.{card_added}
 use Rattle.upd_core.proofs.actives.ActiveDeck.push.Goals as goal
 

@@ -1,4 +1,4 @@
-use Rattle.upd_core.specs.Homes.{AreHome}
+use Rattle.upd_core.proofs.Common.{AreHome}
 use Rattle.upd_core.proofs.HomeLemmas.{decks_kept, home_inserted}
 use Rattle.upd_core.proofs.decks.Decks.insert.Goals as goal
 

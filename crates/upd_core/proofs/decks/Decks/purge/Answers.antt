@@ -1,4 +1,4 @@
-use Rattle.upd_core.specs.Gone.{is_gone}
+use Rattle.upd_core.proofs.Common.{is_gone}
 use Rattle.upd_core.proofs.HomeLemmas.{home_left}
 use Rattle.upd_core.proofs.decks.Decks.purge.Goals as goal
 

@@ -1,4 +1,4 @@
-use Rattle.std.specs.Prelude.{◌==◌}
+use Rattle.upd_core.proofs.Common.{◌==◌}
 use Rattle.upd_core.proofs.HomeLemmas.{home_left_in}
 use Rattle.upd_core.proofs.decks.Decks.purge_in.Goals as goal
 

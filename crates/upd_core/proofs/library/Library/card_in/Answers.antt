@@ -1,5 +1,4 @@
-use Rattle.std.proofs.Common.{arith}
-use Rattle.std.proofs.lemmas.Grind.{elements}
+use Rattle.upd_core.proofs.Common.{arith, elements}
 use Rattle.upd_core.proofs.library.Library.card_in.Goals as goal
 
 pub returns : goal.returns

@@ -1,4 +1,4 @@
-use Rattle.std.proofs.Common.{◌≡◌, length, rules, sym, ◌∙◌}
+use Rattle.upd_core.proofs.Common.{◌≡◌, length, rules, sym, ◌∙◌}
 use Rattle.upd_core.proofs.CountLemmas.{AreOf-inserted_there, AreOf-inserted_nowhere}
 use Rattle.upd_core.proofs.library.Library.insert_card.Goals as goal
 

@@ -1,6 +1,5 @@
-use Rattle.std.proofs.Common.{◌≡◌, ℕ, Bool, ap, ◌∙◌}
-use Rattle.upd_core.specs.Edits.{purged, is_among}
-use Rattle.upd_core.specs.Gone.{is_gone}
+use Rattle.upd_core.proofs.Common.{◌≡◌, ℕ, Bool, ap, ◌∙◌, is_among, is_gone}
+use Rattle.upd_core.specs.Edits.{purged}
 use Rattle.upd_core.proofs.library.Library.purge.Goals as goal
 
 pub returns-clause-ok : goal.returns-clause-ok

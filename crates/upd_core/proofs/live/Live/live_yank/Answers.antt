@@ -1,5 +1,4 @@
-use Rattle.std.proofs.Common.{rules, arith}
-use Rattle.std.proofs.lemmas.Grind.{elements}
+use Rattle.upd_core.proofs.Common.{rules, arith, elements}
 use Rattle.upd_core.proofs.live.Live.live_yank.Goals as goal
 
 pub returns-in_err-index : goal.returns-in_err-index

@@ -1,4 +1,4 @@
-use Rattle.std.proofs.Common.{◌≡◌, map}
+use Rattle.upd_core.proofs.Common.{◌≡◌, map}
 use Rattle.upd_core.proofs.target_counts.TargetCounts.all.Given as goal
 
 abbrev pub invariant-loop-target : goal.invariant-loop-target

@@ -1,5 +1,4 @@
-use Rattle.std.proofs.Common.{◌+◌, min, refl, ap, ◌∙◌}
-use Rattle.upd_core.specs.TargetCounts.{count_in}
+use Rattle.upd_core.proofs.Common.{◌+◌, min, refl, ap, ◌∙◌, count_in}
 use Rattle.upd_core.proofs.CountedLemmas.{raised_more}
 use Rattle.upd_core.proofs.target_counts.TargetCounts.raise.Goals as goal
 

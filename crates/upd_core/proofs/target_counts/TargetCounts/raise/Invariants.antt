@@ -1,7 +1,5 @@
-use Rattle.std.proofs.Common.{◌≡◌, ◌+◌, ◌^◌, ◌<◌, take, count_by}
-use Rattle.upd_core.specs.declared.target.Target.{Target}
-use Rattle.upd_core.specs.TargetCounts.{count_in}
-use Rattle.upd_core.specs.Targets.{is_same}
+use Rattle.upd_core.proofs.Common.{◌≡◌, ◌+◌, ◌<◌, take, count_by, Target, count_in, is_same}
+use Rattle.std.proofs.Common.{◌^◌}
 use Rattle.upd_core.proofs.target_counts.TargetCounts.raise.Given as goal
 
 abbrev pub invariant-loop-target : goal.invariant-loop-target

@@ -1,4 +1,4 @@
-use Rattle.std.proofs.Common.{◌≡◌, ◌++◌, drop}
+use Rattle.upd_core.proofs.Common.{◌≡◌, ◌++◌, drop}
 use Rattle.upd_core.proofs.targets.Targets.add.Given as goal
 
 abbrev pub invariant-loop-i : goal.invariant-loop-i

@@ -1,6 +1,4 @@
-use Rattle.std.proofs.Common.{arith}
-use Rattle.std.proofs.lemmas.Grind.{common_steps}
-use Rattle.upd_core.specs.declared.target.Target.TheVariants.{Set, SetIn}
+use Rattle.upd_core.proofs.Common.{arith, common_steps, Set, SetIn}
 use Rattle.upd_core.proofs.TargetLaws.{is_taken-split}
 use Rattle.upd_core.proofs.targets.Targets.is_taken.Goals as goal
 

@@ -1,6 +1,4 @@
-use Rattle.std.specs.Borrow.{Bor}
-use Rattle.std.proofs.Common.{ℕ, List, sym, append-nil}
-use Rattle.upd_correct.specs.EditedText.{card_line}
+use Rattle.upd_correct.proofs.Common.{Bor, ℕ, List, sym, append-nil, card_line}
 use Rattle.upd_correct.proofs.WriteLemmas.{lines_more}
 use Rattle.upd_correct.proofs.writer.RunText.push_cards.Goals as goal
 

@@ -1,6 +1,4 @@
-use Rattle.std.proofs.Common.{map, take}
-use Rattle.upd_correct.specs.EditedText.{card_line}
-use Rattle.upd_correct.specs.Writing.{Writes}
+use Rattle.upd_correct.proofs.Common.{map, take, card_line, Writes}
 use Rattle.upd_correct.proofs.writer.RunText.push_cards.Given as goal
 
 abbrev pub invariant-loop-line : goal.invariant-loop-line

@@ -1,7 +1,5 @@
-use Rattle.std.proofs.Common.{take}
-use Rattle.std.specs.List.{flat_map}
+use Rattle.upd_correct.proofs.Common.{take, flat_map, Writes}
 use Rattle.upd_correct.specs.Corrections.{deck_lines}
-use Rattle.upd_correct.specs.Writing.{Writes}
 use Rattle.upd_correct.proofs.writer.RunText.push_corrections.Given as goal
 
 abbrev pub invariant-loop-correction : goal.invariant-loop-correction

@@ -1,8 +1,4 @@
-use Rattle.std.specs.Borrow.{Bor}
-use Rattle.std.proofs.Common.{◌≡◌, ℕ, List, [], ◌∷◌, map, sym, ap, ◌∙◌, subst, append-nil}
-use Rattle.upd_correct.specs.Corrections.{NewDeck, first_line}
-use Rattle.upd_correct.specs.EditedText.{card_line}
-use Rattle.upd_correct.specs.Writing.{Writes}
+use Rattle.upd_correct.proofs.Common.{Bor, ◌≡◌, ℕ, List, [], ◌∷◌, map, sym, ap, ◌∙◌, subst, append-nil, NewDeck, first_line, card_line, Writes}
 use Rattle.upd_correct.proofs.WriteLemmas.{writes_then}
 use Rattle.upd_correct.proofs.writer.RunText.push_deck.Goals as goal
 

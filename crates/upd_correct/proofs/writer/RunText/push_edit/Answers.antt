@@ -1,5 +1,4 @@
-use Rattle.std.proofs.Common.{[], ◌∷◌, ◌++◌, sym, ap, append-nil}
-use Rattle.std.specs.Prelude.{codes}
+use Rattle.upd_correct.proofs.Common.{[], ◌∷◌, ◌++◌, sym, ap, append-nil, codes}
 use Rattle.upd_correct.specs.RunLines.{ident_line}
 use Rattle.upd_correct.proofs.WriteLemmas.{writes_then}
 use Rattle.upd_correct.proofs.writer.RunText.push_edit.Goals as goal

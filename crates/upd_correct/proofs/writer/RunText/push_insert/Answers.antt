@@ -1,8 +1,4 @@
-use Rattle.std.proofs.Common.{◌++◌, sym, ap, ◌∙◌, append-nil}
-use Rattle.std.specs.Prelude.{codes}
-use Rattle.upd_text.specs.Names.{card_text}
-use Rattle.upd_core.specs.Library.{ref_of}
-use Rattle.upd_correct.specs.RunLines.{insert_line}
+use Rattle.upd_correct.proofs.Common.{◌++◌, sym, ap, ◌∙◌, append-nil, codes, card_text, ref_of, insert_line}
 use Rattle.upd_correct.proofs.writer.RunText.push_insert.Goals as goal
 
 pub returns : goal.returns

@@ -1,7 +1,5 @@
 -- What is listed of what was loaded is listed of the library after each journal that the store holds.
-use Rattle.std.proofs.Common.{Ok, Err, inl, refl, ◌∙◌}
-use Rattle.upd_row_store.proofs.KeepingLemmas.{uncounted}
-use Rattle.upd_desk.specs.Queries.{listing}
+use Rattle.upd_desk.proofs.Common.{Ok, Err, inl, refl, ◌∙◌, uncounted, listing}
 use Rattle.upd_desk.proofs.ArrivesLemmas.{unstored}
 use Rattle.upd_desk.proofs.MadeLemmas.{library_made}
 use Rattle.upd_desk.proofs.QueryLemmas.{fails_owed, faults_by, listing_keeps, listing_met, store_fails, tells_same}
@@ -26,7 +24,8 @@ returns-in_err-library-clause-text g c honest journal held = rw (error_is _ _ c.
 
 pub returns-clause-faults : goal.returns-clause-faults
 returns-clause-faults g c =
-    faults_by c.in-Err.fault (listing c.args.query.now c.in_ok-library.library) (listing_met c.args.query.now c.in_ok-library.library c.in-Err.fault) c.in-Err.ensures
+    faults_by c.in-Err.fault (listing c.args.query.now c.in_ok-library.library)
+    (listing_met c.args.query.now c.in_ok-library.library c.in-Err.fault) c.in-Err.ensures
 
 pub returns-clause-leaves : goal.returns-clause-leaves
 returns-clause-leaves g c = record {

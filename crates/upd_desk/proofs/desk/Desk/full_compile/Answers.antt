@@ -1,8 +1,6 @@
 -- What is expected of the active cards that were loaded is expected of the library after each journal that the store holds.
-use Rattle.std.proofs.Common.{[], Ok, Err, ap, inl, refl, ◌∙◌}
-use Rattle.upd_compile.specs.File.{compile_file_of, file_of}
+use Rattle.upd_desk.proofs.Common.{[], Ok, Err, ap, inl, refl, ◌∙◌, compile_file_of, file_of, uncounted}
 use Rattle.upd_compile.specs.declared.mode.Mode.TheVariants.{Full}
-use Rattle.upd_row_store.proofs.KeepingLemmas.{uncounted}
 use Rattle.upd_desk.proofs.ArrivesLemmas.{unstored}
 use Rattle.upd_desk.proofs.MadeLemmas.{library_made}
 use Rattle.upd_desk.proofs.QueryLemmas.{compile_keeps, compile_met, fails_owed, faults_by, store_fails, tells_same}

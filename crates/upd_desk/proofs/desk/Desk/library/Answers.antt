@@ -1,5 +1,5 @@
 -- The library that was loaded is the one after each journal that the store holds.
-use Rattle.std.proofs.Common.{Ok, ap, refl}
+use Rattle.upd_desk.proofs.Common.{Ok, ap, refl}
 use Rattle.upd_desk.proofs.MadeLemmas.{library_made}
 use Rattle.upd_desk.proofs.QueryLemmas.{tells_same}
 use Rattle.upd_desk.proofs.desk.Desk.library.Goals as goal

@@ -1,11 +1,7 @@
 -- After each arrival the answers so far are those that are expected for the arrivals so far, and there is room for the rest.
-use Rattle.std.proofs.Common.{◌≡◌, ◌+◌, [], ◌∷◌, ◌++◌, take, length, refl, sym, ap, ◌∙◌, rules, arith}
+use Rattle.upd_desk.proofs.Common.{◌≡◌, ◌+◌, [], ◌∷◌, ◌++◌, take, length, refl, sym, ap, ◌∙◌, rules, arith, vec_len, failures_after, failures_after_all}
 use Rattle.std.proofs.lemmas.List.{length-take-le, length_push, take_more}
-use Rattle.std.specs.Vec.{vec_len}
-use Rattle.upd_row_store.specs.Keeping.{failures_after}
-use Rattle.upd_desk.specs.Holding.{failures_after_all}
-use Rattle.upd_desk.proofs.RunAllLemmas.{failures_more, faults_more, none_arrived, none_read_by, one_more, opens_more}
-use Rattle.upd_desk.proofs.RunAllLemmas.{reads_one_more, work_one_more}
+use Rattle.upd_desk.proofs.RunAllLemmas.{failures_more, faults_more, none_arrived, none_read_by, one_more, opens_more, reads_one_more, work_one_more}
 use Rattle.upd_desk.proofs.desk.Desk.run_all.Goals as goal
 
 pub loop-arrival-init : goal.loop-arrival-init

@@ -1,7 +1,6 @@
-use Rattle.std.proofs.Common.{◌≡◌, ◌≤◌, take, length}
-use Rattle.std.specs.Vec.{vec_capacity, vec_len}
-use Rattle.upd_desk.specs.Holding.{AreArrivalFaults, EndsInReply, ReadsNeededByAll, RunAll, HoldsIn, failures_after_all, work_after_all}
-use Rattle.upd_desk.specs.Journal.{Journal}
+use Rattle.upd_desk.proofs.Common.{◌≡◌, ◌≤◌, take, length, vec_len, AreArrivalFaults, EndsInReply, ReadsNeededByAll, RunAll, HoldsIn, failures_after_all}
+use Rattle.upd_desk.proofs.Common.{work_after_all, Journal}
+use Rattle.std.specs.Vec.{vec_capacity}
 use Rattle.upd_desk.proofs.desk.Desk.run_all.Given as goal
 
 abbrev pub invariant-loop-arrival : goal.invariant-loop-arrival

@@ -1,5 +1,4 @@
-use Rattle.std.proofs.Common.{sym, ◌∙◌, arith}
-use Rattle.upd_edit.specs.YankWarnings.{is_followed}
+use Rattle.upd_edit.proofs.Common.{sym, ◌∙◌, arith, is_followed}
 use Rattle.upd_edit.proofs.YankLemmas.{find_zip_found, find_zip_next}
 use Rattle.upd_edit.proofs.yank_warnings.Taking.followed_pair.Goals as goal
 

@@ -1,6 +1,4 @@
-use Rattle.std.proofs.Common.{◌≡◌, drop}
-use Rattle.std.specs.List.{find, zip}
-use Rattle.upd_edit.specs.YankWarnings.{is_followed}
+use Rattle.upd_edit.proofs.Common.{◌≡◌, drop, find, zip, is_followed}
 use Rattle.upd_edit.proofs.yank_warnings.Taking.followed_pair.Given as goal
 
 abbrev pub invariant-loop-i : goal.invariant-loop-i

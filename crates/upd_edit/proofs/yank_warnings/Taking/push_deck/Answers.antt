@@ -1,6 +1,4 @@
-use Rattle.std.proofs.Common.{◌≡◌, ◌++◌, List, ℕ, ◌∙◌}
-use Rattle.std.proofs.lemmas.Result.{on_ok_weaker}
-use Rattle.upd_core.specs.Library.{name_of}
+use Rattle.upd_edit.proofs.Common.{◌≡◌, ◌++◌, List, ℕ, ◌∙◌, on_ok_weaker, name_of}
 use Rattle.upd_edit.specs.YankWarnings.{staying_warning}
 use Rattle.upd_edit.proofs.yank_warnings.Taking.push_deck.Goals as goal
 

@@ -1,5 +1,4 @@
-use Rattle.std.proofs.Common.{◌≡◌, ◌++◌, drop}
-use Rattle.std.specs.List.{flat_map}
+use Rattle.upd_edit.proofs.Common.{◌≡◌, ◌++◌, drop, flat_map}
 use Rattle.upd_edit.specs.YankWarnings.{deck_warnings}
 use Rattle.upd_edit.proofs.yank_warnings.Taking.push_decks.Given as goal
 

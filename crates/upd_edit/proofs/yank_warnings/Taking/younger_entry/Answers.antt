@@ -1,7 +1,6 @@
-use Rattle.std.proofs.Common.{◌∙◌, rules}
-use Rattle.std.proofs.lemmas.Iterator.{YieldsList-from_slice}
-use Rattle.std.proofs.lemmas.Iterator.Search.{find_from_yields_List}
+use Rattle.upd_edit.proofs.Common.{◌∙◌, rules, find_from_yields_List}
 use borrow.Author.Tests.{tests}
+use Rattle.std.proofs.lemmas.Iterator.{YieldsList-from_slice}
 use Rattle.upd_edit.specs.YankWarnings.{stays}
 use Rattle.upd_edit.proofs.yank_warnings.Taking.younger_entry.Goals as goal
 

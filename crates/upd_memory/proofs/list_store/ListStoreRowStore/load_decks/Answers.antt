@@ -1,5 +1,4 @@
-use Rattle.std.proofs.Common.{refl}
-use Rattle.upd_row_store.proofs.StoreLemmas.{keeps_still, load_lost}
+use Rattle.upd_memory.proofs.Common.{refl, keeps_still, load_lost}
 use Rattle.upd_memory.proofs.list_store.ListStoreRowStore.load_decks.Goals as goal
 
 pub returns-in_err-library-clause-leaves : goal.returns-in_err-library-clause-leaves

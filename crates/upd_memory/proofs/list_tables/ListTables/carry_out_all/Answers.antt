@@ -1,4 +1,4 @@
-use Rattle.std.proofs.Common.{◌∙◌}
+use Rattle.upd_memory.proofs.Common.{◌∙◌}
 use Rattle.upd_memory.proofs.ListLemmas.{next_change}
 use Rattle.upd_memory.proofs.list_tables.ListTables.carry_out_all.Goals as goal
 

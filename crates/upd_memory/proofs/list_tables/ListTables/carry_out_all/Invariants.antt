@@ -1,6 +1,4 @@
-use Rattle.std.proofs.Common.{◌≡◌, map, drop}
-use Rattle.upd_records.specs.Changes.{change_view, done_all}
-use Rattle.upd_records.specs.Fits.{AllFit}
+use Rattle.upd_memory.proofs.Common.{◌≡◌, map, drop, change_view, done_all, AllFit}
 use Rattle.upd_memory.proofs.list_tables.ListTables.carry_out_all.Given as goal
 
 abbrev pub invariant-loop-change : goal.invariant-loop-change

@@ -1,4 +1,4 @@
-use Rattle.std.proofs.Common.{ap, ◌∙◌}
+use Rattle.upd_memory.proofs.Common.{ap, ◌∙◌}
 use Rattle.upd_row_store.proofs.HolderLemmas.{ages_of_rows}
 use Rattle.upd_memory.proofs.list_tables.ListTables.decks_of.Goals as goal
 

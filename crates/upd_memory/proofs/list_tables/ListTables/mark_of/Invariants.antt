@@ -1,6 +1,4 @@
-use Rattle.std.proofs.Common.{◌≡◌, drop}
-use Rattle.std.specs.List.{find}
-use Rattle.upd_row_store.specs.Tables.{is_mark_of}
+use Rattle.upd_memory.proofs.Common.{◌≡◌, drop, find, is_mark_of}
 use Rattle.upd_memory.proofs.list_tables.ListTables.mark_of.Given as goal
 
 abbrev pub invariant-loop-row : goal.invariant-loop-row

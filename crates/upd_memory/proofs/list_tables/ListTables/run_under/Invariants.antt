@@ -1,5 +1,4 @@
-use Rattle.std.proofs.Common.{◌≡◌, drop}
-use Rattle.std.specs.List.{find}
+use Rattle.upd_memory.proofs.Common.{◌≡◌, drop, find}
 use Rattle.upd_row_store.specs.Tables.{is_run}
 use Rattle.upd_memory.proofs.list_tables.ListTables.run_under.Given as goal
 

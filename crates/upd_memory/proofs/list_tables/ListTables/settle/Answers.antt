@@ -1,5 +1,4 @@
-use Rattle.std.proofs.Common.{◌≡◌, nat_le, false, sym, arith}
-use Rattle.std.proofs.lemmas.Bool.Decides.{nat_tests}
+use Rattle.upd_memory.proofs.Common.{◌≡◌, nat_le, false, sym, arith, nat_tests}
 use Rattle.upd_row_store.specs.Tables.{mark_at}
 use Rattle.upd_row_store.proofs.TableLemmas.{settled_mark}
 use Rattle.upd_memory.proofs.list_tables.ListTables.settle.Goals as goal

@@ -1,10 +1,5 @@
-use Rattle.std.proofs.Common.{◌≡◌, true, ap, ◌∙◌, map, subst, sym, arith}
-use Rattle.std.proofs.lemmas.Grind.{common_steps}
-use Rattle.upd_records.proofs.CountLemmas.{same_trans}
-use Rattle.upd_records.specs.Rows.{IsSame}
-use Rattle.upd_row_store.specs.Assembling.{AreAgesOf}
-use Rattle.upd_memory.specs.ActiveRows.{AreInOrder, shown_decks}
-use Rattle.upd_memory.specs.Mirrored.{state_row}
+use Rattle.upd_memory.proofs.Common.{◌≡◌, true, ap, ◌∙◌, map, subst, sym, arith, common_steps, same_trans, IsSame, AreAgesOf, AreInOrder, shown_decks}
+use Rattle.upd_memory.proofs.Common.{state_row}
 use Rattle.upd_memory.proofs.ActiveRowsLemmas.{actives_shown}
 use Rattle.upd_memory.proofs.LoadLemmas.{same_moved}
 use Rattle.upd_memory.proofs.StatusRowLemmas.{statuses_same}

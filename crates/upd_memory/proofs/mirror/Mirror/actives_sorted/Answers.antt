@@ -1,5 +1,4 @@
-use Rattle.std.proofs.Common.{◌∙◌, subst, sym}
-use Rattle.upd_records.specs.Rows.{IsSame}
+use Rattle.upd_memory.proofs.Common.{◌∙◌, subst, sym, IsSame}
 use Rattle.upd_memory.proofs.LoadLemmas.{cards_all}
 use Rattle.upd_memory.proofs.StatusRowLemmas.{statuses_same}
 use Rattle.upd_memory.proofs.mirror.Mirror.actives_sorted.Goals as goal

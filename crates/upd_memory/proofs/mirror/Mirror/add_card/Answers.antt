@@ -1,14 +1,7 @@
-use Rattle.std.proofs.Common.{◌≡◌, ℕ, ◌==◌, ◌∷◌, ◌++◌, [], refl, cond, None, subst, arith}
-use Rattle.std.proofs.lemmas.Grind.{common_steps}
-use Rattle.std.specs.BTreeMap.{get}
-use Rattle.std.specs.Ordering.{is_eq}
-use Rattle.upd_text.specs.declared.card_ref.CardRef.{CardRef}
-use Rattle.upd_records.proofs.CountLemmas.{same_trans}
-use Rattle.upd_records.specs.Rows.{CardRow}
-use Rattle.upd_text.specs.Order.{by_name}
+use Rattle.upd_memory.proofs.Common.{◌≡◌, ℕ, ◌==◌, ◌∷◌, ◌++◌, [], refl, cond, None, subst, arith, common_steps, get, is_eq, CardRef, same_trans, CardRow}
+use Rattle.upd_memory.proofs.Common.{by_name, cards_at, is_home}
 use Rattle.upd_memory.proofs.KeyedLemmas.{one_more}
 use Rattle.upd_memory.proofs.MirrorLemmas.{homes_more, when_ok}
-use Rattle.upd_memory.specs.RowsByKey.{cards_at, is_home}
 use Rattle.upd_memory.proofs.mirror.Mirror.add_card.Goals as goal
 
 pub returns : goal.returns

@@ -1,6 +1,4 @@
-use Rattle.std.proofs.Common.{◌++◌, take}
-use Rattle.upd_records.specs.Rows.{Rows}
-use Rattle.upd_memory.specs.Mirrored.{Agrees}
+use Rattle.upd_memory.proofs.Common.{◌++◌, take, Rows, Agrees}
 use Rattle.upd_memory.proofs.mirror.Mirror.add_cards.Given as goal
 
 abbrev pub invariant-loop-card : goal.invariant-loop-card

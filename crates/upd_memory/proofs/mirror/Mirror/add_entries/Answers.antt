@@ -1,5 +1,4 @@
-use Rattle.std.proofs.Common.{◌++◌, subst, take}
-use Rattle.upd_memory.specs.Mirrored.{Agrees}
+use Rattle.upd_memory.proofs.Common.{◌++◌, subst, take, Agrees}
 use Rattle.upd_memory.proofs.KeyedLemmas.{one_taken}
 use Rattle.upd_memory.proofs.mirror.Mirror.add_entries.Goals as goal
 

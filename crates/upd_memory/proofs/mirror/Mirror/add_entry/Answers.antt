@@ -1,4 +1,4 @@
-use Rattle.std.proofs.Common.{arith}
+use Rattle.upd_memory.proofs.Common.{arith}
 use Rattle.std.proofs.lemmas.Grind.{length_at_push}
 use Rattle.upd_memory.proofs.MirrorLemmas.{entries_more, when_ok}
 use Rattle.upd_memory.proofs.mirror.Mirror.add_entry.Goals as goal

@@ -1,7 +1,4 @@
-use Rattle.std.proofs.Common.{◌≡◌, None, arith}
-use Rattle.std.proofs.lemmas.Grind.{common_steps}
-use Rattle.std.specs.BTreeMap.{get}
-use Rattle.upd_text.specs.Order.{by_name}
+use Rattle.upd_memory.proofs.Common.{◌≡◌, None, arith, common_steps, get, by_name}
 use Rattle.upd_memory.proofs.MirrorLemmas.{when_ok}
 use Rattle.upd_memory.proofs.StatusRowLemmas.{state_more}
 use Rattle.upd_memory.proofs.mirror.Mirror.add_state.Goals as goal

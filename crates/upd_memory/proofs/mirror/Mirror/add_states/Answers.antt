@@ -1,5 +1,4 @@
-use Rattle.std.proofs.Common.{◌++◌, map, subst, take}
-use Rattle.upd_memory.specs.Mirrored.{Agrees, state_row}
+use Rattle.upd_memory.proofs.Common.{◌++◌, map, subst, take, Agrees, state_row}
 use Rattle.upd_memory.proofs.KeyedLemmas.{one_made}
 use Rattle.upd_memory.proofs.mirror.Mirror.add_states.Goals as goal
 

@@ -1,6 +1,4 @@
-use Rattle.std.proofs.Common.{◌++◌, map, take}
-use Rattle.upd_records.specs.Rows.{Rows}
-use Rattle.upd_memory.specs.Mirrored.{Agrees, state_row}
+use Rattle.upd_memory.proofs.Common.{◌++◌, map, take, Rows, Agrees, state_row}
 use Rattle.upd_memory.proofs.mirror.Mirror.add_states.Given as goal
 
 abbrev pub invariant-loop-state : goal.invariant-loop-state

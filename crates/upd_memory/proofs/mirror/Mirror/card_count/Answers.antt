@@ -1,6 +1,5 @@
-use Rattle.std.proofs.Common.{◌∙◌}
+use Rattle.upd_memory.proofs.Common.{◌∙◌, same_length}
 use Rattle.upd_memory.proofs.LoadLemmas.{cards_all}
-use Rattle.upd_row_store.proofs.PartLemmas.{same_length}
 use Rattle.upd_memory.proofs.mirror.Mirror.card_count.Goals as goal
 
 pub returns : goal.returns

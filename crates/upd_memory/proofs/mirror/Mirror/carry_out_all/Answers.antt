@@ -1,7 +1,5 @@
-use Rattle.std.proofs.Common.{refl, sym, ap, ◌∙◌, subst, map, arith}
+use Rattle.upd_memory.proofs.Common.{refl, sym, ap, ◌∙◌, subst, map, arith, change_view, done, done_all, Agrees}
 use Rattle.std.proofs.lemmas.List.{drop_all}
-use Rattle.upd_records.specs.Changes.{change_view, done, done_all}
-use Rattle.upd_memory.specs.Mirrored.{Agrees}
 use Rattle.upd_memory.proofs.MirrorLemmas.{next_change}
 use Rattle.upd_memory.proofs.mirror.Mirror.carry_out_all.Goals as goal
 

@@ -1,8 +1,4 @@
-use Rattle.std.proofs.Common.{◌≡◌, map, drop}
-use Rattle.upd_records.specs.Changes.{change_view, done_all}
-use Rattle.upd_records.specs.Fits.{AllFit}
-use Rattle.upd_records.specs.Rows.{Rows}
-use Rattle.upd_memory.specs.Mirrored.{Agrees}
+use Rattle.upd_memory.proofs.Common.{◌≡◌, map, drop, change_view, done_all, AllFit, Rows, Agrees}
 use Rattle.upd_memory.proofs.mirror.Mirror.carry_out_all.Given as goal
 
 -- some tables agree that the rest of the changes leads to where all lead

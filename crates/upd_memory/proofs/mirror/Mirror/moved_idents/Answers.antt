@@ -1,5 +1,4 @@
-use Rattle.std.proofs.Common.{map}
-use Rattle.upd_records.specs.Changes.{change_view}
+use Rattle.upd_memory.proofs.Common.{map, change_view}
 use Rattle.upd_memory.proofs.MovedIdentLemmas.{all_moved_listed}
 use Rattle.upd_memory.proofs.mirror.Mirror.moved_idents.Goals as goal
 

@@ -1,9 +1,5 @@
-use Rattle.std.proofs.Common.{◌∙◌, filter, map, subst, sym}
-use Rattle.std.specs.List.Sorted.{IsPermutation}
-use Rattle.upd_records.proofs.CountLemmas.{same_trans}
-use Rattle.upd_records.specs.Rows.{IsSame}
-use Rattle.upd_row_store.specs.PartRows.{is_loaded, is_of}
-use Rattle.upd_memory.specs.RowsByKey.{entries_at}
+use Rattle.upd_memory.proofs.Common.{◌∙◌, map, subst, sym, IsPermutation, same_trans, IsSame, is_loaded, is_of, entries_at}
+use Rattle.std.proofs.Common.{filter}
 use Rattle.upd_memory.proofs.LoadLemmas.{cards_part, entries_part, same_in_turn, still_distinct}
 use Rattle.upd_memory.proofs.mirror.Mirror.part_rows.Goals as goal
 

@@ -1,7 +1,5 @@
-use Rattle.std.proofs.Common.{subst, sym, map}
-use Rattle.upd_records.proofs.CountLemmas.{same_map}
+use Rattle.upd_memory.proofs.Common.{subst, sym, map, same_map, IsSame}
 use Rattle.upd_records.specs.Changes.{purged_row}
-use Rattle.upd_records.specs.Rows.{IsSame}
 use Rattle.upd_memory.proofs.mirror.Mirror.purge_ident.Goals as goal
 
 pub returns : goal.returns

@@ -1,5 +1,4 @@
-use Rattle.std.proofs.Common.{arith}
-use Rattle.std.proofs.lemmas.Grind.{common_steps}
+use Rattle.upd_memory.proofs.Common.{arith, common_steps}
 use Rattle.upd_memory.proofs.MirrorLemmas.{count_none, count_some}
 use Rattle.upd_memory.proofs.mirror.Mirror.put_count.Goals as goal
 

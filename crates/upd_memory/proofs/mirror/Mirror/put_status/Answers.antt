@@ -1,9 +1,5 @@
-use Rattle.std.proofs.Common.{sym, subst}
-use Rattle.upd_text.specs.declared.card_ref.CardRef.{CardRef}
-use Rattle.std.specs.BTreeMap.{get}
-use Rattle.upd_text.specs.Order.{by_name}
+use Rattle.upd_memory.proofs.Common.{sym, subst, CardRef, get, by_name, IsSame, state_rows}
 use Rattle.upd_records.proofs.StatusLemmas.{status_set}
-use Rattle.upd_records.specs.Rows.{IsSame, state_rows}
 use Rattle.upd_memory.proofs.MirrorLemmas.{when_ok}
 use Rattle.upd_memory.proofs.StatusRowLemmas.{state_put}
 use Rattle.upd_memory.proofs.mirror.Mirror.put_status.Goals as goal

@@ -1,6 +1,4 @@
-use Rattle.std.proofs.Common.{◌∙◌, subst, sym, map}
-use Rattle.upd_records.specs.Rows.{IsSame}
-use Rattle.upd_row_store.specs.Tables.{count_pair, state_pair}
+use Rattle.upd_memory.proofs.Common.{◌∙◌, subst, sym, map, IsSame, count_pair, state_pair}
 use Rattle.upd_memory.proofs.StatusRowLemmas.{pairs_same}
 use Rattle.upd_memory.proofs.mirror.Mirror.states.Goals as goal
 

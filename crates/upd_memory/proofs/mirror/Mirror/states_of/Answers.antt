@@ -1,7 +1,4 @@
-use Rattle.std.proofs.Common.{◌∙◌, [], subst, sym, map}
-use Rattle.upd_records.proofs.CountLemmas.{same_of}
-use Rattle.upd_records.specs.Rows.{IsSame}
-use Rattle.upd_row_store.specs.Tables.{count_pair}
+use Rattle.upd_memory.proofs.Common.{◌∙◌, [], subst, sym, map, same_of, IsSame, count_pair}
 use Rattle.upd_memory.proofs.ActiveRowsLemmas.{pairs_sorted}
 use Rattle.upd_memory.proofs.mirror.Mirror.states_of.Goals as goal
 

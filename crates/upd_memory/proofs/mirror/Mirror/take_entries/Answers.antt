@@ -1,4 +1,4 @@
-use Rattle.std.proofs.Common.{◌∙◌}
+use Rattle.upd_memory.proofs.Common.{◌∙◌}
 use Rattle.upd_memory.proofs.MirrorLemmas.{count_left, entries_left}
 use Rattle.upd_memory.proofs.mirror.Mirror.take_entries.Goals as goal
 

@@ -1,6 +1,5 @@
-use Rattle.std.proofs.Common.{subst, sym, filter, not}
-use Rattle.upd_records.proofs.CountLemmas.{same_filter}
-use Rattle.upd_records.specs.Rows.{IsSame, same_ref}
+use Rattle.upd_memory.proofs.Common.{subst, sym, not, same_filter, IsSame, same_ref}
+use Rattle.std.proofs.Common.{filter}
 use Rattle.upd_memory.proofs.mirror.Mirror.take_targets.Goals as goal
 
 pub returns : goal.returns

@@ -1,4 +1,4 @@
-use Rattle.std.proofs.Common.{refl}
+use Rattle.upd_memory.proofs.Common.{refl}
 use Rattle.upd_memory.proofs.MirrorLemmas.{no_cards, no_entries, no_homes, no_statuses}
 use Rattle.upd_memory.proofs.mirror.Mirror.without_cards.Goals as goal
 

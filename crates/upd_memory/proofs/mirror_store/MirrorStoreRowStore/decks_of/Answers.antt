@@ -1,5 +1,4 @@
-use Rattle.std.proofs.Common.{refl}
-use Rattle.upd_row_store.proofs.StoreLemmas.{keeps_still, read_lost}
+use Rattle.upd_memory.proofs.Common.{refl, keeps_still, read_lost}
 use Rattle.upd_memory.proofs.mirror_store.MirrorStoreRowStore.decks_of.Goals as goal
 
 pub returns-in_err-decks-clause-leaves : goal.returns-in_err-decks-clause-leaves

@@ -1,5 +1,4 @@
-use Rattle.std.proofs.Common.{refl, arith, inl}
-use Rattle.upd_row_store.proofs.StoreLemmas.{load_lost}
+use Rattle.upd_memory.proofs.Common.{refl, arith, inl, load_lost}
 use Rattle.upd_memory.proofs.mirror_store.MirrorStoreRowStore.load.Goals as goal
 
 pub returns-in_err-library-clause-leaves : goal.returns-in_err-library-clause-leaves

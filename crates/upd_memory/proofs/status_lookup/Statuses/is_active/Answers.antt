@@ -1,4 +1,4 @@
-use Rattle.std.proofs.Common.{sym}
+use Rattle.upd_memory.proofs.Common.{sym}
 use Rattle.upd_memory.proofs.ActiveRowsLemmas.{active_at, none_active}
 use Rattle.upd_memory.proofs.status_lookup.Statuses.is_active.Goals as goal
 

@@ -1,8 +1,6 @@
-use Rattle.std.proofs.Common.{map}
+use Rattle.upd_row_store.proofs.Common.{map, AllMoveListed, committed}
 use Rattle.upd_records.specs.Changes.{change_view}
 use Rattle.upd_records.specs.Fits.{AllFit}
-use Rattle.upd_row_store.specs.Movable.{AllMoveListed}
-use Rattle.upd_row_store.specs.Tables.{committed}
 use Rattle.upd_row_store.proofs.StoreLemmas.{write_narrower}
 use Rattle.upd_row_store.proofs.store.RowStore.commit_moving.Goals as goal
 

@@ -1,4 +1,4 @@
-use Rattle.std.proofs.Common.{Err, refl}
+use Rattle.upd_row_store.proofs.Common.{Err, refl}
 use Rattle.upd_row_store.proofs.StoreLemmas.{keeps_still, read_lost}
 use Rattle.upd_row_store.proofs.store.RowStore.library_rows.Goals as goal
 

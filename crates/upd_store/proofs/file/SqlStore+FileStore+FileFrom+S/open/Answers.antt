@@ -1,5 +1,4 @@
-use Rattle.std.proofs.Common.{arith}
-use Rattle.sqlite.specs.Files.{file_state}
+use Rattle.upd_store.proofs.Common.{arith, file_state}
 use Rattle.upd_store.proofs.Opening.{found_still}
 use Rattle.upd_store.proofs.file.SqlStore+FileStore+FileFrom+S.open.Goals as goal
 

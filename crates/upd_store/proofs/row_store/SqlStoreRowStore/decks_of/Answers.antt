@@ -1,5 +1,5 @@
-use Rattle.std.proofs.Common.{IsTrue, rules, ◌∙◌}
-use Rattle.upd_row_store.proofs.HolderLemmas.{ages_of_rows, any_same}
+use Rattle.upd_store.proofs.Common.{IsTrue, rules, ◌∙◌, ages_of_rows}
+use Rattle.upd_row_store.proofs.HolderLemmas.{any_same}
 use Rattle.upd_store.proofs.row_store.SqlStoreRowStore.decks_of.Goals as goal
 
 pub returns-in-Ok-ages_of_decks-clause-found : goal.returns-in-Ok-ages_of_decks-clause-found

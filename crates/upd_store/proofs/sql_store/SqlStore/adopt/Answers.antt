@@ -1,4 +1,4 @@
-use Rattle.std.proofs.Common.{inl, ◌∙◌, arith}
+use Rattle.upd_store.proofs.Common.{inl, ◌∙◌, arith}
 use Rattle.upd_store.proofs.sql_store.SqlStore.adopt.Goals as goal
 
 pub returns-then-version-ne-VERSION-clause-version : goal.returns-then-version-ne-VERSION-clause-version

@@ -1,8 +1,5 @@
-use Rattle.std.proofs.Common.{◌≡◌, ◌⊎◌, inl, inr, ◌∙◌, ℕ, Result, Ok, Err, IfOk}
+use Rattle.upd_store.proofs.Common.{◌≡◌, ◌⊎◌, inl, inr, ◌∙◌, ℕ, Result, Ok, Err, IfOk, Error, state, HasVersion}
 use Rattle.std.specs.Prelude.{MatchResult}
-use Rattle.sqlite.specs.declared.error.Error.{Error}
-use Rattle.sqlite.specs.Held.{state}
-use Rattle.upd_store.specs.Version.{HasVersion}
 use Rattle.upd_store.proofs.sql_store.SqlStore.init.Goals as goal
 
 named : (Has : ℕ → Type 0) (found : Result ℕ Error) (at : ℕ) → IfOk found (λ n. (v : ℕ) → Has v → n ≡ v)

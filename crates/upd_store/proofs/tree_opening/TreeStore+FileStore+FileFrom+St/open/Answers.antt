@@ -1,9 +1,6 @@
-use Rattle.std.proofs.Common.{ℕ, Bool, cond, List, ap₂, subst}
-use Rattle.std.proofs.lemmas.Option.{IfSome_then}
+use Rattle.upd_store.proofs.Common.{ℕ, Bool, List, ap₂, subst, IfSome_then, Image, view, FindsTrees}
+use Rattle.std.proofs.Common.{cond}
 use Rattle.sqlite_disk.specs.Events.{Event, replay}
-use Rattle.sqlite_wal.specs.Recovery.{Image}
-use Rattle.sqlite_store.specs.FileStore.{view}
-use Rattle.upd_store.specs.TreeOpening.{FindsTrees}
 use Rattle.upd_store.proofs.tree_opening.TreeStore+FileStore+FileFrom+St.open.Goals as goal
 
 abbrev image : List ℕ → List ℕ → Image

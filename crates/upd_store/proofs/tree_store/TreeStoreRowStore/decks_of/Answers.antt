@@ -1,5 +1,4 @@
-use Rattle.std.proofs.Common.{◌∙◌}
-use Rattle.upd_row_store.proofs.HolderLemmas.{ages_of_rows}
+use Rattle.upd_store.proofs.Common.{◌∙◌, ages_of_rows}
 use Rattle.upd_store.proofs.tree_store.TreeStoreRowStore.decks_of.Goals as goal
 
 pub returns-in-Ok-ages_of_decks-clause-found : goal.returns-in-Ok-ages_of_decks-clause-found

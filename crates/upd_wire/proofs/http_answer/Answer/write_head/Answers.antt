@@ -1,4 +1,4 @@
-use Rattle.std.proofs.Common.{[], ap, refl, ◌∙◌, ◌≡◌, arith, codes, decimal, length, option_map, vec_len}
+use Rattle.upd_wire.proofs.Common.{[], ap, refl, ◌∙◌, ◌≡◌, arith, codes, decimal, length, option_map, vec_len}
 use Rattle.upd_wire.specs.Routes.{method_of}
 use Rattle.upd_wire.specs.Responses.{allow_line}
 use Rattle.upd_wire.specs.Statuses.{media_text, status_line}

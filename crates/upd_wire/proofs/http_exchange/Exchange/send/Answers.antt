@@ -1,8 +1,5 @@
-use Rattle.std.proofs.Common.{◌≡◌, ◌++◌, Result, sym, ap₂, ◌∙◌, subst}
-use Rattle.upd_text.specs.declared.fault.Fault.{Fault}
-use Rattle.upd_wire.specs.AnswerViews.{answer_seen}
-use Rattle.upd_wire.specs.Serving.{Puts, Sends}
-use Rattle.upd_wire.specs.declared.http_answer.Answer.{Answer}
+use Rattle.upd_wire.proofs.Common.{◌≡◌, ◌++◌, Result, sym, ap₂, ◌∙◌, subst, Fault, answer_seen, Sends, Answer}
+use Rattle.upd_wire.specs.Serving.{Puts}
 use Rattle.upd_wire.proofs.http_exchange.Exchange.send.Goals as goal
 
 pub returns-in-Ok : goal.returns-in-Ok

@@ -1,4 +1,5 @@
-use Rattle.std.proofs.Common.{◌≡◌, ap, sym, ◌∙◌, List, ℕ, [], Option, Some, None, Bor, MatchOption, unwrap_or}
+use Rattle.upd_wire.proofs.Common.{◌≡◌, ap, sym, ◌∙◌, List, ℕ, [], Option, Some, None, Bor, unwrap_or}
+use Rattle.std.proofs.Common.{MatchOption}
 use Rattle.std.proofs.Math.Logic.{∥∥₁_elim}
 use Rattle.std.proofs.Props.{props}
 use Rattle.matchit.specs.Params.{named}

@@ -1,11 +1,4 @@
-use Rattle.std.proofs.Common.{◌≡◌, ap, sym, ◌∙◌, subst, List, ℕ, Some}
-use Rattle.std.specs.Str.{IsUtf8}
-use Rattle.matchit.specs.Params.{AllText, walk}
-use Rattle.matchit.specs.Router.{RouteOf}
-use Rattle.matchit.specs.Seek.{first}
-use Rattle.upd_wire.specs.Parameters.{segments_of}
-use Rattle.upd_wire.specs.Routes.{parameters_of, routes}
-use Rattle.upd_wire.specs.declared.routes.Route.{Route}
+use Rattle.upd_wire.proofs.Common.{◌≡◌, ap, sym, ◌∙◌, subst, List, ℕ, Some, IsUtf8, AllText, walk, RouteOf, first, segments_of, parameters_of, routes, Route}
 use Rattle.upd_wire.proofs.RouteLemmas.{are_bytes, captures_are_parameters, parameters_are_text}
 use Rattle.upd_wire.proofs.table.RouteTable.find.Goals as goal
 

@@ -1,9 +1,5 @@
-use Rattle.std.proofs.Common.{◌<◌, ◌^◌, length, ap, sym, ◌∙◌, subst}
-use Rattle.upd_core.specs.Counted.{CountedView}
-use Rattle.upd_core.specs.Library.{LibraryView}
-use Rattle.upd_core.specs.Sound.{IsSound}
+use Rattle.upd_yank.proofs.Common.{◌<◌, ◌^◌, length, ap, sym, ◌∙◌, subst, CountedView, LibraryView, IsSound, CacheView, IsRight}
 use Rattle.upd_yank.proofs.RightLemmas.{all_touched, built_right}
-use Rattle.upd_yank.specs.Right.{CacheView, IsRight}
 use Rattle.upd_yank.proofs.cache.Cache.build.Goals as goal
 
 pub returns-clause-right : goal.returns-clause-right

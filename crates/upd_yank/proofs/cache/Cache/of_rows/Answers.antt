@@ -1,10 +1,5 @@
-use Rattle.std.proofs.Common.{None, refl, ap, ◌∙◌}
-use Rattle.std.specs.Map.{update_all}
-use Rattle.upd_records.specs.Rows.{same_ref}
-use Rattle.upd_core.specs.Status.{status_of}
-use Rattle.upd_core.specs.TargetCounts.{count_in, live_count}
+use Rattle.upd_yank.proofs.Common.{None, refl, ap, ◌∙◌, update_all, same_ref, status_of, count_in, live_count, put_counts}
 use Rattle.upd_yank.proofs.RowLemmas.{count_put, status_put}
-use Rattle.upd_yank.specs.Right.{put_counts}
 use Rattle.upd_yank.proofs.cache.Cache.of_rows.Goals as goal
 
 pub returns-clause-right : goal.returns-clause-right

@@ -1,14 +1,9 @@
-use Rattle.std.proofs.Common.{◌≡◌, true, map, ap, sym, ◌∙◌, subst, arith}
-use Rattle.std.specs.List.{list_any, AllByRecursion}
-use Rattle.upd_records.specs.Changes.{change_view, done_all}
-use Rattle.upd_records.specs.Rows.{ShowsStates, same_ref}
-use Rattle.upd_diff.specs.States.{row_changes_state}
+use Rattle.upd_yank.proofs.Common.{◌≡◌, true, map, ap, sym, ◌∙◌, subst, arith, list_any, AllByRecursion, change_view, done_all, ShowsStates, same_ref}
+use Rattle.upd_yank.proofs.Common.{row_changes_state, CacheView, IsRunBetween, update_changes}
 use Rattle.upd_yank.proofs.EnoughLemmas.{sees}
 use Rattle.upd_yank.proofs.OnlyLemmas.{update_only}
 use Rattle.upd_yank.proofs.RightLemmas.{least_work, updated_right, updates_found}
 use Rattle.upd_yank.proofs.StatusChangeLemmas.{update_shows}
-use Rattle.upd_yank.specs.Right.{CacheView, IsRunBetween}
-use Rattle.upd_yank.specs.StatusChanges.{update_changes}
 use Rattle.upd_yank.proofs.cache.Cache.settle.Goals as goal
 
 pub returns-clause-right : goal.returns-clause-right

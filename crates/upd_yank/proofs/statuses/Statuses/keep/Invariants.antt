@@ -1,9 +1,4 @@
-use Rattle.std.proofs.Common.{◌≡◌, if◌then◌else◌, take}
-use Rattle.std.specs.List.{list_any}
-use Rattle.std.specs.Option.{option_or}
-use Rattle.upd_records.specs.Rows.{same_ref}
-use Rattle.upd_text.specs.declared.card_ref.CardRef.{CardRef}
-use Rattle.upd_yank.specs.Right.{kept_status}
+use Rattle.upd_yank.proofs.Common.{◌≡◌, if◌then◌else◌, take, list_any, option_or, same_ref, CardRef, kept_status}
 use Rattle.upd_yank.proofs.statuses.Statuses.keep.Given as goal
 
 abbrev pub invariant-loop-card : goal.invariant-loop-card

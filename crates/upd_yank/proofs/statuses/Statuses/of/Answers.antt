@@ -1,4 +1,4 @@
-use Rattle.std.proofs.Common.{sym, ◌∙◌}
+use Rattle.upd_yank.proofs.Common.{sym, ◌∙◌}
 use Rattle.upd_yank.proofs.RefLemmas.{status_by_order}
 use Rattle.upd_yank.proofs.statuses.Statuses.of.Goals as goal
 

@@ -1,8 +1,4 @@
-use Rattle.std.proofs.Common.{◌≡◌, take}
-use Rattle.std.specs.Map.{update_all}
-use Rattle.upd_records.specs.Rows.{same_ref}
-use Rattle.upd_text.specs.declared.card_ref.CardRef.{CardRef}
-use Rattle.upd_yank.specs.Right.{kept_status}
+use Rattle.upd_yank.proofs.Common.{◌≡◌, take, update_all, same_ref, CardRef, kept_status}
 use Rattle.upd_yank.proofs.statuses.Statuses.put_all.Given as goal
 
 abbrev pub invariant-loop-card : goal.invariant-loop-card

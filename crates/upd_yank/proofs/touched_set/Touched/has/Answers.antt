@@ -1,4 +1,4 @@
-use Rattle.std.proofs.Common.{sym, ◌∙◌}
+use Rattle.upd_yank.proofs.Common.{sym, ◌∙◌}
 use Rattle.upd_yank.proofs.RefLemmas.{any_by_order}
 use Rattle.upd_yank.proofs.touched_set.Touched.has.Goals as goal
 
