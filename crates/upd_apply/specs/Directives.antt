@@ -1,7 +1,8 @@
 -- What the item of a line names, and whether it yanks or purges.
 use Rattle.std.specs.Prelude.{ℕ, Bool, true, false, List, [], ◌∷◌, Option, Some, None}
 use Rattle.upd_text.specs.declared.card_ref.CardRef.{CardRef}
-use Rattle.upd_deck.specs.Items.{ItemView, Ident, Deck, CommonDeck, Insert, Before, Delete, Restore, Yank, SelYank, YankDeck, Purge, PurgeFrom, SelPurge, PurDeck}
+use Rattle.upd_deck.specs.Items.{ItemView, Ident, Deck, CommonDeck, Insert, Before, Delete, Restore, Yank, SelYank, YankDeck, Purge, PurgeFrom, SelPurge}
+use Rattle.upd_deck.specs.Items.{PurDeck}
 
 -- whether a line yanks
 abbrev pub is_yank : ItemView → Bool

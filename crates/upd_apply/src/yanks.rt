@@ -1,6 +1,7 @@
 //! Yanks: `*YANK`, `*SELYANK`, `*YANKDECK`, and their targets.
-ghost use Rattle.std.specs.Prelude.{◌≡◌, ◌+◌, ◌^◌, ◌<◌, ◌&&◌, ◌||◌, ◌==◌, ℕ, [], ◌∷◌, ◌++◌, map, Ok, Err, Some, MatchResult, OnOk};
+ghost use Rattle.std.specs.Prelude.{◌≡◌, ◌+◌, ◌^◌, ◌<◌, ◌&&◌, ◌||◌, ◌==◌, ℕ, [], ◌∷◌, ◌++◌, map, Ok, Err, None, Some, MatchResult, OnOk};
 ghost use Rattle.std.specs.List.{filter};
+ghost use Rattle.upd_text.specs.declared.fault.FaultKind.TheVariants.{NoIdent};
 ghost use Rattle.upd_text.specs.Outcome.{Does, Gives};
 ghost use Rattle.upd_deck.specs.Items.{SelYank, Yank, YankDeck};
 ghost use Rattle.upd_core.specs.declared.target.Target.TheVariants.{Set};
@@ -22,7 +23,8 @@ impl State {
     /// `*YANK` of names and ranges.
     pub(crate) fn yank_sets(&mut self, text: &[u8], ranges: &[NameRange]) -> Result<(), FaultKind>
         requires { next_most self.old + 1 < 2 ^ 32 }
-        ensures { Does result self.new (carried_out (judged (Yank ranges.now) text.now self.old) self.old) }
+        ensures done { Does result self.new (carried_out (judged (Yank ranges.now) text.now self.old) self.old) }
+        ensures no_set { self.old.current_set ≡ None → result ≡ Err NoIdent }
     {
         let current_set = self.known_set()?;
         let targets = sets_yanked(&self.library, current_set.ident, ranges)?;
@@ -32,7 +34,8 @@ impl State {
     /// `*SELYANK`: idents, each in one deck.
     pub(crate) fn yank_pairs(&mut self, text: &[u8], pairs: &[IdentIn]) -> Result<(), FaultKind>
         requires { next_most self.old + 1 < 2 ^ 32 }
-        ensures { Does result self.new (carried_out (judged (SelYank pairs.now) text.now self.old) self.old) }
+        ensures done { Does result self.new (carried_out (judged (SelYank pairs.now) text.now self.old) self.old) }
+        ensures no_set { self.old.current_set ≡ None → result ≡ Err NoIdent }
     {
         let current_set = self.known_set()?;
         let targets = pairs_yanked(&self.library, current_set.ident, pairs)?;
@@ -42,7 +45,8 @@ impl State {
     /// `*YANKDECK`: whole decks.
     pub(crate) fn yank_decks(&mut self, text: &[u8], names: &[Name]) -> Result<(), FaultKind>
         requires { next_most self.old + 1 < 2 ^ 32 }
-        ensures { Does result self.new (carried_out (judged (YankDeck names.now) text.now self.old) self.old) }
+        ensures done { Does result self.new (carried_out (judged (YankDeck names.now) text.now self.old) self.old) }
+        ensures no_set { self.old.current_set ≡ None → result ≡ Err NoIdent }
     {
         let current_set = self.known_set()?;
         let targets = decks_yanked(&self.library, current_set.ident, names)?;

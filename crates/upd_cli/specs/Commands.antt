@@ -28,12 +28,13 @@ use Rattle.upd_cli.specs.Opened.{BacksUp, Closes, MakesLibrary, MigratesLibrary}
 use Rattle.upd_cli.specs.Replayed.{IsReplayed}
 use Rattle.upd_cli.specs.Stored.{LeavesList}
 use Rattle.upd_cli.specs.Works.{Leaves, ending_of}
-use Rattle.upd_cli.specs.declared.run_queries.Stored.{Stored}
-use Rattle.upd_cli.specs.declared.run_queries.Stored.TheVariants as stored
+use Rattle.upd_keep.specs.declared.run_reads.Listed.{Listed}
+use Rattle.upd_keep.specs.declared.run_reads.Listed.TheVariants as listed
 use Rattle.upd_words.specs.Words.{IsAskedFor, IsUnasked}
 use Rattle.upd_words.specs.declared.words.Command.{Command}
 use Rattle.upd_words.specs.declared.words.Request.{Request}
-use Rattle.upd_words.specs.declared.words.Request.TheVariants.{Trial, Init, Library, Runs, Sites, Backup, Examine, Replay, Migrate, Explain, Shown, Unread, NoAddress}
+use Rattle.upd_words.specs.declared.words.Request.TheVariants.{Trial, Init, Library, Runs, Sites, Backup, Examine, Replay, Migrate, Explain, Shown, Unread}
+use Rattle.upd_words.specs.declared.words.Request.TheVariants.{NoAddress}
 
 -- the line that comes first where the log beside a file has frames
 abbrev pub log_line : Bool → List ℕ
@@ -80,7 +81,7 @@ EndsSilently ended status faults faults' = IfErr ended (λ fault. exit_status fa
 -- Connections to files, and what the file held before.
 module _ {D : Type 0} (g : DiskGhosts D) (held : Image) where
   -- a list was asked, and output, fault stream and status tell how
-  abbrev pub IsListed : Stored → Ending → Type 0
+  abbrev pub IsListed : Listed → Ending → Type 0
   IsListed list end =
       (ended : Result ℕ Fault) × LeavesList g held list ended end.output end.output' × IsEndOf ended end.status end.faults end.faults'
 
@@ -119,8 +120,8 @@ module _ {S D : Type 0} {g : DiskGhosts D} (meaning : Ghosts S) (conn_of : S →
       (run : List ℕ) × IsInput (before input) run × Answers (answer_to (trial_named mode.now run)) (ending_of status output faults)
   IsDone (Init file) status = IsSilent × IsInitialized g held status (before faults) (after faults)
   IsDone (Library file command) status = IsCarriedOut command status
-  IsDone (Runs file) status = IsListed g held stored.Runs (ending_of status output faults)
-  IsDone (Sites file) status = IsListed g held stored.Sites (ending_of status output faults)
+  IsDone (Runs file) status = IsListed g held listed.Runs (ending_of status output faults)
+  IsDone (Sites file) status = IsListed g held listed.Sites (ending_of status output faults)
   IsDone (Backup file copy) status = IsSilent × IsBackedUp g held status (before faults) (after faults)
   IsDone (Examine file) status = IsExamined (file_state {g = g}) held (ending_of status output faults)
   IsDone (Replay file) status = IsReplayed g held (ending_of status output faults)

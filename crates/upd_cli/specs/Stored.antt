@@ -11,41 +11,35 @@ use Rattle.upd_text.specs.declared.fault.Fault.{Fault}
 use Rattle.upd_records.specs.Rows.{Rows}
 use Rattle.upd_row_store.specs.Keeping.{IsLost}
 use Rattle.upd_sql.specs.LibraryTables.{ShowsTables}
-use Rattle.upd_keep.specs.Keeping.{HasRunLines, HasSiteLines}
+use Rattle.upd_keep.specs.Keeping.{HasLines}
+use Rattle.upd_keep.specs.declared.run_reads.Listed.{Listed}
 use Rattle.upd_store.specs.Faults.{IsUnopened}
 use Rattle.upd_subcommands.specs.Reporting.{ReportsText}
 use Rattle.upd_cli.specs.Opened.{IsLibraryIn}
-use Rattle.upd_cli.specs.declared.run_queries.Stored.{Stored}
-use Rattle.upd_cli.specs.declared.run_queries.Stored.TheVariants.{Runs, Sites}
-
--- a text has the lines of what is stored in these tables
-abbrev pub HasLines : Stored → Rows → List ℕ → Type 0
-HasLines Runs rows text = HasRunLines rows text
-HasLines Sites rows text = HasSiteLines rows text
 
 -- The answer has the lines of the tables, or was lost. Nothing changes.
-pub record ShowsList (stored : Stored) (answer : Result (List ℕ) Fault) (old new : State) : Type 0 where
-  pub lines : HasCleanDisk new → IfOk answer (λ text. (rows : Rows) → ShowsTables rows old.committed → HasLines stored rows text)
+pub record ShowsList (listed : Listed) (answer : Result (List ℕ) Fault) (old new : State) : Type 0 where
+  pub lines : HasCleanDisk new → IfOk answer (λ text. (rows : Rows) → ShowsTables rows old.committed → HasLines listed rows text)
   pub same : HasCleanDisk new → IsTrue new.is_open → new.committed ≡ old.committed
   pub crash : Survives old new (λ _. ⊥)
   pub lost : IfErr answer IsLost
 
 -- a list was asked of a library, and the answer was told
-abbrev pub ReportsList : Stored → Result ℕ Fault → State → State → Option (List ℕ) → Option (List ℕ) → Type 0
-ReportsList stored ended old new output output' =
-    (answer : Result (List ℕ) Fault) × ShowsList stored answer old new × ReportsText answer ended output output'
+abbrev pub ReportsList : Listed → Result ℕ Fault → State → State → Option (List ℕ) → Option (List ℕ) → Type 0
+ReportsList listed ended old new output output' =
+    (answer : Result (List ℕ) Fault) × ShowsList listed answer old new × ReportsText answer ended output output'
 
 -- Connections to files.
 module _ {D : Type 0} {g : DiskGhosts D} where
   -- a list was asked of a connection, and of the last connection this holds
-  abbrev pub ListsTables : Held (FileStore D g) → (Held (FileStore D g) → Type 0) → Stored → Result ℕ Fault → Option (List ℕ) → Option (List ℕ) → Type 0
-  ListsTables conn Left stored ended output output' =
-      (last : Held (FileStore D g)) × ReportsList stored ended (file_state conn) (file_state last) output output' × Left last
+  abbrev pub ListsTables : Held (FileStore D g) → (Held (FileStore D g) → Type 0) → Listed → Result ℕ Fault → Option (List ℕ) → Option (List ℕ) → Type 0
+  ListsTables conn Left listed ended output output' =
+      (last : Held (FileStore D g)) × ReportsList listed ended (file_state conn) (file_state last) output output' × Left last
 
 module _ {D : Type 0} (g : DiskGhosts D) where
   -- a list was asked of the library in the file; or it can't be opened, and nothing is written
-  abbrev pub LeavesList : Image → Stored → Result ℕ Fault → Option (List ℕ) → Option (List ℕ) → Type 0
-  LeavesList held stored ended output output' =
+  abbrev pub LeavesList : Image → Listed → Result ℕ Fault → Option (List ℕ) → Option (List ℕ) → Type 0
+  LeavesList held listed ended output output' =
       ((conn : Held (FileStore D g)) × IsLibraryIn held (file_state conn)
-      × ListsTables conn (λ _. Unit {0}) stored ended output output')
+      × ListsTables conn (λ _. Unit {0}) listed ended output output')
       ⊎ (IsErrAnd ended IsUnopened × Appends output output' [])

@@ -9,11 +9,12 @@ use crate::desk_work::{FileRows, TreeRows, on_library};
 use crate::examined::report_on;
 use crate::library_file::{backup_file, init_file, migrate_file};
 use crate::replay_report::replay_on;
-use crate::run_queries::{Stored, list_on};
+use crate::run_queries::list_on;
 use sqlite::{FileFrom, Start, Unknown};
 use sqlite_disk::Disk;
 use std::convert::AsStr;
 use std::io::{Read, Write};
+use upd_keep::Listed;
 use upd_row_store::Meaning;
 use upd_subcommands::{
     DONE, carry_out_explaining, carry_out_trial, finish, finish_with, report_unread, write_out,
@@ -94,11 +95,11 @@ fn carry_out<Fi: Start, St: Start, R: Read, W: Write, E: Write>(
             finish_with(ended, faults)
         }
         Request::Runs(file) => {
-            let ended = list_on(rt, file, start, Stored::Runs, output);
+            let ended = list_on(rt, file, start, Listed::Runs, output);
             finish_with(ended, faults)
         }
         Request::Sites(file) => {
-            let ended = list_on(rt, file, start, Stored::Sites, output);
+            let ended = list_on(rt, file, start, Listed::Sites, output);
             finish_with(ended, faults)
         }
         Request::Backup { file, copy } => finish(backup_file(rt, file, start, copy), faults),

@@ -12,28 +12,21 @@ use sqlite::{Connection, FileFrom, FileStore, Files, Start};
 use sqlite_disk::Disk;
 use std::alloc::Global;
 use std::io::Write;
-use upd_keep::{runs_text, sites_text};
+use upd_keep::{Listed, list_text};
 use upd_sqlite::Rising;
 use upd_store::SqlStore;
 use upd_subcommands::{DONE, write_out};
 use upd_text::Fault;
-
-/// What is listed of what a library stores.
-#[derive(Clone, Copy, Drop)]
-pub(crate) enum Stored {
-    Runs,
-    Sites,
-}
 
 /// A list of what the library in a file stores goes to the output. Returns the exit status.
 pub(crate) fn list_on<St: Start, W: Write>(
     rt: &HostRuntime,
     file: &str,
     start: St,
-    stored: Stored,
+    listed: Listed,
     output: &mut W,
 ) -> Result<u8, Fault>
-    ensures leaves { LeavesList ⟦<FileFrom<St> as Disk>⟧ (image_at St.Start) stored result
+    ensures leaves { LeavesList ⟦<FileFrom<St> as Disk>⟧ (image_at St.Start) listed result
         (W.contents output.old) (W.contents output.new) }
     ensures status { IfOk result (λ status. status ≡ 0) }
     ensures failed { IfErr result (λ fault. exit_status fault.kind ≡ 3) }
@@ -41,7 +34,7 @@ pub(crate) fn list_on<St: Start, W: Write>(
     match SqlStore::open(rt, file, false, start) {
         Ok(library) => {
             let conn = library.into_connection();
-            let (ended, _) = list_tables(rt.alloc(), conn, stored, output);
+            let (ended, _) = list_tables(rt.alloc(), conn, listed, output);
             ended
         }
         Err(fault) => Err(fault),
@@ -52,15 +45,15 @@ pub(crate) fn list_on<St: Start, W: Write>(
 fn list_tables<D: Disk + Drop, W: Write>(
     alloc: Global,
     conn: Connection<FileStore<D>>,
-    stored: Stored,
+    listed: Listed,
     output: &mut W,
 ) -> (Result<u8, Fault>, Option<Files<D>>)
-    ensures lists { ListsTables conn (Closes result.1) stored result.0 (W.contents output.old) (W.contents output.new) }
+    ensures lists { ListsTables conn (Closes result.1) listed result.0 (W.contents output.old) (W.contents output.new) }
     ensures status { IfOk result.0 (λ status. status ≡ 0) }
     ensures failed { IfErr result.0 (λ fault. exit_status fault.kind ≡ 3) }
 {
     let mut conn = conn;
-    let ended = report_list(alloc, &mut conn, stored, output);
+    let ended = report_list(alloc, &mut conn, listed, output);
     (ended, closed(conn))
 }
 
@@ -68,15 +61,15 @@ fn list_tables<D: Disk + Drop, W: Write>(
 fn report_list<S: Rising, W: Write>(
     alloc: Global,
     conn: &mut Connection<S>,
-    stored: Stored,
+    listed: Listed,
     output: &mut W,
 ) -> Result<u8, Fault>
-    ensures reports { ReportsList stored result (state S.Store conn.old) (state S.Store conn.new)
+    ensures reports { ReportsList listed result (state S.Store conn.old) (state S.Store conn.new)
         (W.contents output.old) (W.contents output.new) }
     ensures status { IfOk result (λ status. status ≡ 0) }
     ensures failed { IfErr result (λ fault. exit_status fault.kind ≡ 3) }
 {
-    match list_text(alloc, conn, stored) {
+    match shown_list(alloc, conn, listed) {
         Ok(text) => match write_out(output, &text) {
             Ok(()) => Ok(DONE),
             Err(fault) => Err(fault),
@@ -86,16 +79,13 @@ fn report_list<S: Rising, W: Write>(
 }
 
 /// The lines of a list of what a library stores. Nothing changes. The faults are NoMemory and Store, at 0.
-fn list_text<S: Rising>(
+fn shown_list<S: Rising>(
     alloc: Global,
     conn: &mut Connection<S>,
-    stored: Stored,
+    listed: Listed,
 ) -> Result<Vec<u8>, Fault>
-    ensures { ShowsList stored (result_map_both (λ text. text.items) (λ fault. fault) result)
+    ensures { ShowsList listed (result_map_both (λ text. text.items) (λ fault. fault) result)
         (state S.Store conn.old) (state S.Store conn.new) }
 {
-    match stored {
-        Stored::Runs => runs_text(alloc, conn),
-        Stored::Sites => sites_text(alloc, conn),
-    }
+    list_text(alloc, conn, listed)
 }

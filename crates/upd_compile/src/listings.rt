@@ -1,18 +1,17 @@
 //! The four listings, and the lines that they are made of. Each line ends with LF.
-
-ghost use Rattle.std.specs.Prelude.{◌≡◌, ◌∷◌, ◌++◌, [], ℕ, List, if◌then◌else◌, codes, drop, OnOk, IfOk, not};
+ghost use Rattle.std.specs.Prelude.{◌≡◌, ◌∷◌, ◌++◌, [], ℕ, Err, List, None, if◌then◌else◌, codes, drop, OnOk, IfOk, not};
 ghost use Rattle.std.specs.List.{flat_map, list_any};
 ghost use Rattle.std.specs.Result.{IsOkUnless};
 ghost use Rattle.upd_core.specs.declared.ident.Ident.{Ident};
-ghost use Rattle.upd_text.specs.declared.fault.FaultKind.TheVariants.{NoMemory};
+ghost use Rattle.upd_text.specs.declared.fault.FaultKind.TheVariants.{CardUnknown, DeckUnknown, NoMemory};
 ghost use Rattle.upd_text.specs.Faults.{fault_at};
 ghost use Rattle.upd_text.specs.Outcome.{GivesAt};
+ghost use Rattle.upd_core.specs.Library.{place_of};
 ghost use Rattle.upd_core.specs.Sound.{AreAgedFrom, is_held};
 ghost use Rattle.upd_core.specs.Status.{is_active, live_targets};
 ghost use Rattle.upd_compile.specs.Listings.{deck_heading, deck_line, deck_listing, deck_name, listed_deck};
 ghost use Rattle.upd_compile.specs.Listings.{card_lines, card_listing, card_name, entry_line, line_of, word_if};
-ghost use Rattle.upd_compile.specs.Listings.{ident_line, ident_listing, is_purged, purged_suffix};
-ghost use Rattle.upd_compile.specs.Listings.{target_line, yank_lines, yank_listing};
+ghost use Rattle.upd_compile.specs.Listings.{ident_line, ident_listing, is_purged, purged_suffix, target_line, yank_lines, yank_listing};
 
 use crate::idents::{ident_at, name_of};
 use crate::text_parts::push_parts;
@@ -31,7 +30,8 @@ use upd_text::{CardRef, Fault, FaultKind, Name};
 /// A X.1 NEW
 /// ```
 pub fn list_deck(alloc: Global, library: &Library, name: &Name) -> Result<Vec<u8>, Fault>
-    ensures { GivesAt (λ text. text.items) result (deck_listing name.now library.now) }
+    ensures listing { GivesAt (λ text. text.items) result (deck_listing name.now library.now) }
+    ensures unknown { listed_deck name.now library.now ≡ None → result ≡ Err (fault_at DeckUnknown 0) }
 {
     let deck = listed_deck(library, name).ok_or(FaultKind::DeckUnknown.without_line())?;
     deck_text(alloc, library, deck, library.cards_of(deck))
@@ -39,7 +39,8 @@ pub fn list_deck(alloc: Global, library: &Library, name: &Name) -> Result<Vec<u8
 
 /// Lists a card with its status and history. CardUnknown where there is no such card.
 pub fn list_card(alloc: Global, library: &Library, card: CardRef) -> Result<Vec<u8>, Fault>
-    ensures { GivesAt (λ text. text.items) result (card_listing card library.now) }
+    ensures listing { GivesAt (λ text. text.items) result (card_listing card library.now) }
+    ensures unknown { place_of card library.now ≡ None → result ≡ Err (fault_at CardUnknown 0) }
 {
     let unknown = FaultKind::CardUnknown.without_line();
     let place = library.card_at(card).ok_or(unknown)?;

@@ -1,6 +1,8 @@
 //! A compile file while it is written.
 
-ghost use Rattle.std.specs.Prelude.{◌≡◌, ◌≤◌, [], ◌++◌, OnOk};
+ghost use Rattle.std.specs.Prelude.{◌≡◌, ◌≤◌, [], ◌++◌, Err, OnOk};
+ghost use Rattle.upd_text.specs.declared.limits.TheConstants.{MAX_CALLS, MAX_COMPILE_LINES};
+ghost use Rattle.upd_text.specs.declared.fault.FaultKind.TheVariants.{CompileLong};
 ghost use Rattle.upd_text.specs.Outcome.{Does};
 ghost use Rattle.upd_text.specs.declared.fault.FaultKind.{FaultKind};
 ghost use Rattle.upd_compile.specs.File.{blanks, card_line, from_left, from_right};
@@ -45,7 +47,8 @@ impl Progress {
 
     /// Writes the line of a card; CompileLong after 10,000 lines.
     pub(crate) fn line(&mut self, idents: &[Ident], card: &ActiveCardRef) -> Result<(), FaultKind>
-        ensures { Does result self.new (after_event idents.now (Line card.now) self.old) }
+        ensures line { Does result self.new (after_event idents.now (Line card.now) self.old) }
+        ensures long { MAX_COMPILE_LINES ≤ self.old.lines → result ≡ Err CompileLong }
     {
         if self.lines as usize >= MAX_COMPILE_LINES {
             return Err(FaultKind::CompileLong);
@@ -65,7 +68,8 @@ impl Progress {
 
     /// Counts a call; CompileLong after 10,000 calls.
     pub(crate) fn follow(&mut self) -> Result<(), FaultKind>
-        ensures { Does result self.new (after_event [] Follow self.old) }
+        ensures follows { Does result self.new (after_event [] Follow self.old) }
+        ensures long { MAX_CALLS ≤ self.old.calls → result ≡ Err CompileLong }
     {
         if self.calls >= MAX_CALLS {
             return Err(FaultKind::CompileLong);

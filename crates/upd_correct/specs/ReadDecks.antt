@@ -12,7 +12,8 @@ use Rattle.upd_correct.specs.Refusals.{lines_refusals, names_begun}
 
 -- Decks are read from lines, and the refusals of the lines follow earlier ones. Without refusals the lines are those of the decks, and no
 -- deck has a problem.
-pub record AreReadFrom (l : LibraryView) (set : Bytes) (earlier : List Refusal) (lines : List Bytes) (decks : List NewDeck) (refusals : List Refusal) : Type 0 where
+pub record AreReadFrom (l : LibraryView) (set : Bytes) (earlier : List Refusal) (lines : List Bytes) (decks : List NewDeck)
+    (refusals : List Refusal) : Type 0 where
   pub names : map (λ d. d.name) decks ≡ names_begun lines
   pub refused : refusals ≡ earlier ++ lines_refusals l set [] lines
   pub each : AllByRecursion IsEditedDeck decks

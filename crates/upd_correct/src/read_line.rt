@@ -1,7 +1,8 @@
 //! Reading a line of an edited text.
 
-ghost use Rattle.std.specs.Prelude.{◌≡◌, ◌+◌, ◌∷◌, [], not, length, IfOk, Ok};
+ghost use Rattle.std.specs.Prelude.{◌≡◌, ◌≢◌, ◌+◌, ◌∷◌, [], not, length, IfOk, IsOk, Ok};
 ghost use Rattle.upd_text.specs.Lines.{up_to};
+ghost use Rattle.upd_text.specs.declared.fault.FaultKind.TheVariants.{NoMemory};
 ghost use Rattle.upd_text.specs.Outcome.{FailsAt};
 ghost use Rattle.upd_deck.specs.Reading.{is_allowed, reading};
 ghost use Rattle.upd_correct.specs.LineReads.{IsTakenAs};
@@ -62,7 +63,8 @@ fn line_by_item<'a>(alloc: Global, bytes: &[u8], line: &Line<'a>) -> LineRead<'a
 
 /// A line that a run may not have.
 fn refused_line<'a>(bytes: &[u8], fault: Fault) -> Result<LineRead<'a>, AllocError>
-    ensures { FailsAt fault (reading bytes.now) → IfOk result (IsTakenAs bytes.now) }
+    ensures taken { FailsAt fault (reading bytes.now) → IfOk result (IsTakenAs bytes.now) }
+    ensures read { fault.kind ≢ NoMemory → IsOk result }
 {
     match fault.kind {
         FaultKind::NoMemory => Err(AllocError),

@@ -2,10 +2,11 @@
 //!
 //! The fields are checked as a whole first, and then read one by one from the left. Faults are reported in this order.
 
-ghost use Rattle.std.specs.Prelude.{◌≡◌, ◌==◌, ℕ, List, Result, map, length, is_some, Some, IfSome};
+ghost use Rattle.std.specs.Prelude.{◌≡◌, ◌==◌, ℕ, false, List, Result, map, length, is_some, Err, Some, IfSome};
 ghost use Rattle.std.specs.Str.{bytes_eq};
 ghost use Rattle.std.specs.List.{list_any};
 ghost use Rattle.upd_text.specs.declared.fault.FaultKind.{FaultKind};
+ghost use Rattle.upd_text.specs.declared.fault.FaultKind.TheVariants as fault;
 ghost use Rattle.upd_text.specs.Outcome.{Gives};
 ghost use Rattle.upd_deck.specs.declared.word.Word.TheVariants as words;
 ghost use Rattle.upd_deck.specs.LineFields.{seen};
@@ -95,7 +96,8 @@ pub(crate) fn item_of(alloc: Global, text: &[u8]) -> Result<Item, FaultKind>
 /// The item of a line with a word of the profile: a directive or a call. A wrong number of fields, an empty field or a
 /// second field of a common deck other than NOPROP is BadField.
 fn directive(alloc: Global, word: Word, fields: &[&[u8]]) -> Result<Item, FaultKind>
-    ensures { Gives seen result (item_by (Some word) (map (λ x. x.now) fields.now)) }
+    ensures item { Gives seen result (item_by (Some word) (map (λ x. x.now) fields.now)) }
+    ensures field { are_its_fields word (map (λ x. x.now) fields.now) ≡ false → result ≡ Err fault.BadField }
 {
     if !are_its_fields(word, fields) {
         return Err(FaultKind::BadField);

@@ -1,9 +1,11 @@
 //! Reading a run: its limits, then its lines in order.
 
-ghost use Rattle.std.specs.Prelude.{◌≡◌, ℕ, ◌≤◌, List, length, Ok, Err, IfOk, MatchResult};
+ghost use Rattle.std.specs.Prelude.{◌≡◌, ℕ, ◌<◌, ◌≤◌, List, length, Ok, Err, IfOk, MatchResult};
 ghost use Rattle.std.specs.List.{AllByRecursion, list_all};
 ghost use Rattle.std.specs.Option.{option_to_list};
 ghost use Rattle.upd_text.specs.declared.limits.TheConstants.{MAX_RUN_BYTES, MAX_RUN_LINES};
+ghost use Rattle.upd_text.specs.Faults.{fault_at};
+ghost use Rattle.upd_text.specs.declared.fault.FaultKind.TheVariants.{RunLong};
 ghost use Rattle.upd_text.specs.Outcome.{Gives, GivesAt, each};
 ghost use Rattle.upd_deck.specs.Order.{FollowFrom};
 ghost use Rattle.upd_deck.specs.Reading.{cut, is_allowed, reading, said, said_at, text_of, trimmed};
@@ -27,6 +29,7 @@ use upd_text::{Fault, FaultKind};
 /// ```
 pub fn read_run(alloc: Global, bytes: &[u8]) -> Result<Run<'_>, Fault>
     ensures reading { GivesAt (λ run. run) result (reading bytes.now) }
+    ensures long { MAX_RUN_BYTES < length bytes.now → result ≡ Err (fault_at RunLong 0) }
 {
     if bytes.len() > MAX_RUN_BYTES {
         return Err(FaultKind::RunLong.without_line());

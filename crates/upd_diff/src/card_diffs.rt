@@ -1,5 +1,5 @@
 //! Card diffs: one loop over the cards of a deck before and after a run.
-ghost use Rattle.std.specs.Prelude.{◌≡◌, ◌↔◌, ◌+◌, ◌<◌, ◌≤◌, [], ◌∷◌, ◌++◌, true, map, length, take, IfOk, OnOk};
+ghost use Rattle.std.specs.Prelude.{◌≡◌, ◌↔◌, ◌+◌, ◌<◌, ◌≤◌, ◌^◌, [], ◌∷◌, ◌++◌, true, nat_lt, map, length, take, IfOk, OnOk};
 ghost use Rattle.std.specs.List.{flat_map, AllByRecursion};
 ghost use Rattle.upd_core.specs.Library.{CardView};
 ghost use Rattle.upd_diff.specs.CardDiffs.{AreCardDiffs, IsNextOf, IsShort, Gone, Kept, New, card_after, card_before};
@@ -159,8 +159,15 @@ pub(crate) fn deck_diff<'a>(
     ensures short { IfOk result IsShort }
 {
     let card_diffs = card_diffs(alloc, youngest, before, after)?;
-    if u32::try_from(card_diffs.len()).is_err() {
+    if !is_short(card_diffs.len()) {
         return Err(AllocError);
     }
     Ok(DeckDiff { deck, card_diffs })
+}
+
+/// Whether the places of this number of card diffs are numbers of 32 bits.
+fn is_short(count: usize) -> bool
+    ensures { result ≡ nat_lt count (2 ^ 32) }
+{
+    u32::try_from(count).is_ok()
 }

@@ -1,6 +1,6 @@
 //! Row changes from card diffs: idents, then deletions, then moves, then insertions.
 ghost use Rattle.std.specs.Prelude.{◌≡◌, ◌+◌, ◌<◌, ◌≤◌, true, ◌^◌, ◌==◌, ◌&&◌, not, if◌then◌else◌, [], ◌∷◌, ◌++◌, map};
-ghost use Rattle.std.specs.Prelude.{length, drop, IfOk, OnOk};
+ghost use Rattle.std.specs.Prelude.{length, drop, IfOk, OnErr, OnOk};
 ghost use Rattle.std.specs.List.{flat_map};
 ghost use Rattle.upd_records.specs.Changes.{CardNew, IdentPurged, TargetsGone, change_view};
 ghost use Rattle.upd_diff.specs.CardDiffs.{Gone, Kept, card_diff_view};
@@ -325,7 +325,8 @@ fn add_targets(
 }
 
 fn row_number(place: usize) -> Result<u32, AllocError>
-    ensures { IfOk result (λ number. number ≡ place) }
+    ensures number { IfOk result (λ number. number ≡ place) }
+    ensures err { OnErr result (2 ^ 32 ≤ place) }
 {
     u32::try_from(place).map_err(|_| AllocError)
 }

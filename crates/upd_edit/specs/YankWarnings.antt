@@ -1,5 +1,6 @@
 -- The warnings of a yank or purge that is tried: what younger idents have made of its cards, and which decks stay.
-use Rattle.std.specs.Prelude.{ℕ, ◌-◌, nat_lt, Bool, false, not, ◌&&◌, if◌then◌else◌, List, [], ◌∷◌, ◌++◌, drop, slice_get, codes, decimal, Option, Some, None, is_some}
+use Rattle.std.specs.Prelude.{ℕ, ◌-◌, nat_lt, Bool, false, not, ◌&&◌, if◌then◌else◌, List, [], ◌∷◌, ◌++◌, drop, slice_get, codes, decimal, Option, Some, None}
+use Rattle.std.specs.Prelude.{is_some}
 use Rattle.std.specs.List.{filter_map, find, flat_map, list_any, zip}
 use Rattle.std.specs.Option.{option_and_then, option_map, option_map_or}
 use Rattle.upd_text.specs.Units.{Bytes}

@@ -1,5 +1,5 @@
 //! The rows that a library itself has.
-ghost use Rattle.std.specs.Prelude.{◌≡◌, ◌++◌, IfOk};
+ghost use Rattle.std.specs.Prelude.{◌≡◌, ◌≤◌, ◌^◌, ◌++◌, IfOk, OnErr};
 ghost use Rattle.std.specs.List.{flat_map};
 ghost use Rattle.upd_core.specs.Library.{ref_of};
 ghost use Rattle.upd_records.specs.Rows.{card_rows, entry_rows, rows_of, target_rows};
@@ -11,7 +11,8 @@ use upd_records::{CardRow, EntryRow, LibraryRows, TargetRow};
 
 /// A place as rows have it. It returns `AllocError` for 2^32 and more.
 fn place(index: usize) -> Result<u32, AllocError>
-    ensures { IfOk result (λ place. place ≡ index) }
+    ensures place { IfOk result (λ place. place ≡ index) }
+    ensures err { OnErr result (2 ^ 32 ≤ index) }
 {
     match u32::try_from(index) {
         Ok(place) => Ok(place),

@@ -6,7 +6,9 @@ use Rattle.upd_views.specs.SiteLines.{AreSiteLines}
 use Rattle.upd_records.specs.Rows.{MarkRow, Rows, RunView}
 use Rattle.upd_sql.specs.Listed.{AreInOrder, by_key, by_site}
 use Rattle.upd_sql.specs.LibraryTables.{ShowsTables}
-use Rattle.upd_keep.specs.declared.kept.Kept.{Kept}
+use Rattle.upd_store.specs.declared.tree_reads.StoredRuns.{StoredRuns}
+use Rattle.upd_keep.specs.declared.run_reads.Listed.{Listed}
+use Rattle.upd_keep.specs.declared.run_reads.Listed.TheVariants.{Runs, Sites}
 
 -- What a look at tables finds and leaves: what is found is so of the tables that were committed, and these stay.
 pub record LooksUp {A E : Type 0} (Right : Rows → A → Type 0) (result : Result A E) (old new : State) : Type 0 where
@@ -17,7 +19,7 @@ pub record LooksUp {A E : Type 0} (Right : Rows → A → Type 0) (result : Resu
   pub found : HasCleanDisk new → IfOk result (λ x. (it : Rows) → ShowsTables it old.committed → Right it x)
 
 -- The stored runs and the marks of tables, each as often as it is there, in order.
-pub record AreKept (rows : Rows) (kept : Kept) : Type 0 where
+pub record AreKept (rows : Rows) (kept : StoredRuns) : Type 0 where
   pub runs : AreInOrder by_key rows.runs kept.runs.items
   pub marks : AreInOrder by_site rows.settled kept.marks.items
 
@@ -29,3 +31,8 @@ HasRunLines rows text = (runs : List RunView) × AreInOrder by_key rows.runs run
 abbrev pub HasSiteLines : Rows → List ℕ → Type 0
 HasSiteLines rows text =
     (runs : List RunView) × (marks : List MarkRow) × AreInOrder by_key rows.runs runs × AreInOrder by_site rows.settled marks × AreSiteLines runs marks text
+
+-- a text has the lines of what is listed of these tables
+abbrev pub HasLines : Listed → Rows → List ℕ → Type 0
+HasLines Runs rows text = HasRunLines rows text
+HasLines Sites rows text = HasSiteLines rows text

@@ -11,7 +11,7 @@ use Rattle.upd_sql.specs.LibraryTables.{ShowsTables}
 use Rattle.upd_desk.specs.Arrivals.{ArrivalView, arrival_view}
 use Rattle.upd_desk.specs.Journal.{Came, Journal, answer, library_after}
 use Rattle.upd_keep.specs.Examining.{Reads}
-use Rattle.upd_keep.specs.declared.kept.Kept.{Kept}
+use Rattle.upd_store.specs.declared.tree_reads.StoredRuns.{StoredRuns}
 use Rattle.upd_keep.specs.declared.run_history.StoredTables.{StoredTables}
 use Rattle.upd_keep.specs.declared.replaying.Replayed.{Replayed}
 use Rattle.upd_keep.specs.declared.replaying.Replayed.TheVariants.{Same, Other}
@@ -62,7 +62,7 @@ IsFirstParting journal runs (Some run) = PartsAt journal runs run
 -- ---- what is read
 
 -- The stored runs of tables in the order in which they were stored, and the marks by site.
-pub record AreInTurn (rows : Rows) (kept : Kept) : Type 0 where
+pub record AreInTurn (rows : Rows) (kept : StoredRuns) : Type 0 where
   pub runs : kept.runs.items ≡ rows.runs
   pub marks : AreInOrder by_site rows.settled kept.marks.items
 

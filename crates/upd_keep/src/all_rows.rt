@@ -6,7 +6,6 @@ ghost use Rattle.upd_records.specs.Rows.{Rows};
 ghost use Rattle.upd_sql.specs.LibraryTables.{ShowsTables};
 ghost use Rattle.upd_keep.specs.Examining.{AreAllRows, HasOneVersion, Reads};
 
-use crate::kept::Kept;
 use crate::run_reads::stored_kept;
 use crate::versions::only_version;
 use sqlite::{Connection, Error};
@@ -15,13 +14,14 @@ use upd_core::States;
 use upd_records::LibraryRows;
 use upd_sql::{stored_library_rows, stored_states};
 use upd_sqlite::Rising;
+use upd_store::StoredRuns;
 
 /// The rows of all tables of a library.
 #[derive(Debug, Drop)]
 pub(crate) struct AllRows {
     pub(crate) library: LibraryRows,
     pub(crate) states: States,
-    pub(crate) kept: Kept,
+    pub(crate) kept: StoredRuns,
 }
 
 /// The rows of the tables that a library is made of, of its statuses and of what it keeps of sites. Nothing changes.

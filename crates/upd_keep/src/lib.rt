@@ -7,7 +7,6 @@
 mod all_rows;
 mod copying;
 mod file_examination;
-mod kept;
 mod looking_at;
 mod other_tables;
 mod replaying;
@@ -19,7 +18,6 @@ mod versions;
 
 pub use copying::{backup, whole_copy};
 pub use file_examination::{Examined, Report, examine, examine_tables};
-pub use kept::Kept;
 pub use replaying::{Replayed, replay_tables};
-pub use run_reads::{runs_text, sites_text, stored_kept};
+pub use run_reads::{Listed, list_text, list_text_below, stored_kept};
 pub use situation::Situation;

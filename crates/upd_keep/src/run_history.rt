@@ -9,33 +9,33 @@ ghost use Rattle.upd_keep.specs.Examining.{Reads};
 ghost use Rattle.upd_keep.specs.Keeping.{LooksUp};
 ghost use Rattle.upd_keep.specs.Replaying.{AreInTurn, AreStoredTables};
 
-use crate::kept::Kept;
 use sqlite::{Alter, Connection, Error, Transaction};
 use std::alloc::Global;
 use upd_core::States;
 use upd_records::LibraryRows;
 use upd_sql::{marks_in, runs_in_turn, stored_library_rows, stored_states};
 use upd_sqlite::{Rising, begin};
+use upd_store::StoredRuns;
 
 /// The rows of a library, and its stored runs in the order in which they were stored.
 #[derive(Debug, Drop)]
 pub(crate) struct StoredTables {
     pub(crate) library: LibraryRows,
     pub(crate) states: States,
-    pub(crate) kept: Kept,
+    pub(crate) kept: StoredRuns,
 }
 
 /// The stored runs in the order in which they were stored, and the marks.
-fn history_in<S: Alter>(tx: &mut Transaction<'_, S>, alloc: Global) -> Result<Kept, Error>
+fn history_in<S: Alter>(tx: &mut Transaction<'_, S>, alloc: Global) -> Result<StoredRuns, Error>
     ensures { Inside (state S.Store) (Looks AreInTurn) tx.old.conn tx.new.conn result }
 {
     let runs = runs_in_turn(tx, alloc)?;
     let marks = marks_in(tx, alloc)?;
-    Ok(Kept { runs, marks })
+    Ok(StoredRuns { runs, marks })
 }
 
 /// The same, read in a transaction that is rolled back.
-fn stored_history<S: Rising>(conn: &mut Connection<S>, alloc: Global) -> Result<Kept, Error>
+fn stored_history<S: Rising>(conn: &mut Connection<S>, alloc: Global) -> Result<StoredRuns, Error>
     requires { conn.old.in_transaction ≡ false }
     ensures { LooksUp AreInTurn result (state S.Store conn.old) (state S.Store conn.new) }
 {

@@ -68,5 +68,6 @@ mark_row r = Text r.site ∷ num r.mark ∷ []
 -- the lists of rows of all nine tables, in the order of the schema
 abbrev pub stored : Rows → List (List Row)
 stored rows =
-    (version_row 3 ∷ []) ∷ map ident_row rows.idents ∷ map card_row rows.cards ∷ map entry_row rows.entries ∷ map target_row rows.targets ∷ map run_row rows.runs
+    (version_row 3 ∷ []) ∷ map ident_row rows.idents ∷ map card_row rows.cards ∷ map entry_row rows.entries ∷ map target_row rows.targets
+    ∷ map run_row rows.runs
     ∷ map state_row rows.states ∷ map count_row rows.counts ∷ map mark_row rows.settled ∷ []

@@ -1,11 +1,10 @@
 -- Tables whose key is a PRIMARY KEY beside the rowid, and the plain queries over one table.
-use Rattle.std.specs.Prelude.{ℕ, ◌-◌, ◌^◌, min, true, false, pos, negsuc, List, [], ◌∷◌, None, Some}
+use Rattle.std.specs.Prelude.{ℕ, ◌-◌, ◌^◌, true, false, pos, negsuc, List, [], ◌∷◌, None}
 use Rattle.sqlite_value.specs.declared.keys.Collation.TheVariants.{Binary}
 use Rattle.sqlite_value.specs.declared.keys.Key.{Key}
 use Rattle.sqlite_value.specs.declared.value.Value.TheVariants.{Null, Int}
 use Rattle.sqlite_value.specs.Keys.{ascending, plain}
 use Rattle.sqlite_sql.specs.Term.{Term, col, lit}
-use Rattle.sqlite_sql.specs.declared.aggregate.AggregateOp.TheVariants.{CountRows}
 use Rattle.sqlite_sql.specs.Query.{Query, inner, end}
 use Rattle.sqlite_schema.specs.declared.schema.Kind.{Kind}
 use Rattle.sqlite_schema.specs.declared.schema.Column.{Column}
@@ -42,29 +41,6 @@ plain_query tree tests project order = record {
   distinct = false;
   collations = [];
   order = order;
-  limit = lit (Int (negsuc 0));
-  offset = lit (Int (pos 0));
-}
-
--- a count as SQLite returns it: up to the last signed number of 64 bits
-abbrev pub sqlite_count : ℕ → ℕ
-sqlite_count n = min n (2 ^ 63 - 1)
-
--- the number of rows of a tree
-abbrev pub row_count : ℕ → Query
-row_count tree = record {
-  from = inner tree end;
-  filter = [];
-  group = Some (record {
-    keys = [];
-    collations = [];
-    aggregates = record { op = CountRows; distinct = false; collation = Binary; argument = lit Null } ∷ [];
-    having = [];
-  });
-  project = col 1 0 ∷ [];
-  distinct = false;
-  collations = [];
-  order = [];
   limit = lit (Int (negsuc 0));
   offset = lit (Int (pos 0));
 }

@@ -10,6 +10,7 @@ use Rattle.sqlite_catalog.specs.Listing.{Lists}
 use Rattle.upd_records.specs.Rows.{Rows}
 use Rattle.upd_records.specs.declared.rows.LibraryRows.{LibraryRows}
 use Rattle.upd_sqlite.specs.Stored.{HasRows}
+use Rattle.upd_store.specs.declared.tree_reads.StoredRuns.{StoredRuns}
 use Rattle.upd_sql.specs.Commits.{ShowsIn}
 use Rattle.upd_sql.specs.Encoded.{version_row}
 use Rattle.upd_sql.specs.Schema.{library_schema, meta}
@@ -20,6 +21,11 @@ pub record ListsLibrary (it : Rows) (found : LibraryRows) : Type 0 where
   pub cards : found.cards.items ≡ it.cards
   pub entries : found.entries.items ≡ it.entries
   pub targets : found.targets.items ≡ it.targets
+
+-- these are the stored runs and the marks, in their order
+pub record ListsRuns (it : Rows) (found : StoredRuns) : Type 0 where
+  pub runs : found.runs.items ≡ it.runs
+  pub marks : found.marks.items ≡ it.settled
 
 -- nothing is written, and no failure waits for a rollback
 abbrev pub IsWhole : View → Type 0
@@ -42,7 +48,7 @@ module _ {S : Type 0} (store : Ghosts S) (old new : S) where
     pub found : IsClean (store.view new) → IfOk result (λ x. (it : Rows) → ShowsIn (store.view old).trees it → Right it x)
 
   -- A read outside of a transaction: it answers what is right of the committed tables, and leaves them.
-  pub record Answers {A : Type 0} (Right : Rows → A → Type 0) (result : Result A StoreError) : Type 0 where
+  pub record Answers {A E : Type 0} (Right : Rows → A → Type 0) (result : Result A E) : Type 0 where
     pub whole : IsWhole (store.view new)
     pub was_open : IsClean (store.view new) → IsTrue (store.view new).is_open → IsTrue (store.view old).is_open
     pub opens : IsClean (store.view new) → OnOk result (IsTrue (store.view old).is_open × IsTrue (store.view new).is_open)

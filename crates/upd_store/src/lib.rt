@@ -17,5 +17,6 @@ mod version;
 pub use log_file::{has_frames, is_log_alone};
 pub use sql_store::SqlStore;
 pub use store_faults::{fault_of, no_memory, refused, store_at};
+pub use tree_reads::StoredRuns;
 pub use tree_store::TreeStore;
 pub use version::version_of;

@@ -54,7 +54,6 @@ pub(crate) fn version_fault(found: Result<u32, Error>) -> Fault
 pub fn refused(failures: &mut u64) -> Fault
     ensures lost { IsLost result }
     ensures kind { result.kind ≡ Store }
-    ensures at { result.at ≡ 0 }
     ensures count { failures.new ≡ failures_with result.kind failures.old }
     ensures grows { failures.old ≤ failures.new }
 {
@@ -66,7 +65,6 @@ pub fn refused(failures: &mut u64) -> Fault
 pub(crate) fn counted(error: Error, failures: &mut u64) -> Fault
     ensures lost { IsLost result }
     ensures kind { result.kind ≡ kind_for error }
-    ensures at { result.at ≡ 0 }
     ensures count { failures.new ≡ failures_with result.kind failures.old }
     ensures grows { failures.old ≤ failures.new }
 {

@@ -2,7 +2,7 @@
 ghost use Rattle.std.specs.Prelude.{◌≡◌};
 ghost use Rattle.upd_row_store.specs.Tables.{AreByKey, AreRead};
 ghost use Rattle.upd_sql.specs.Part.{AreActiveRows};
-ghost use Rattle.upd_store.specs.TreeReads.{Answers, Finds, IsWhole, ListsLibrary};
+ghost use Rattle.upd_store.specs.TreeReads.{Answers, Finds, IsWhole, ListsLibrary, ListsRuns};
 
 use crate::tree_records::Record;
 use sqlite_trees::error::StoreError;
@@ -10,9 +10,16 @@ use sqlite_trees::store::{Direction, Store};
 use sqlite_value::row::Row;
 use std::alloc::Global;
 use upd_core::States;
-use upd_records::LibraryRows;
+use upd_records::{LibraryRows, MarkRow, RunRow};
 use upd_row_store::states_by_key;
 use upd_sql::ActiveRows;
+
+/// Stored runs and marks.
+#[derive(Debug, Drop)]
+pub struct StoredRuns {
+    pub runs: Vec<RunRow>,
+    pub marks: Vec<MarkRow>,
+}
 
 /// The records of a table, in the order of their rowids. Beside them one row is in memory at a time.
 fn walk<S: Store, T: Record + Drop>(store: &mut S, alloc: Global) -> Result<Vec<T>, StoreError>
@@ -83,5 +90,16 @@ pub(crate) fn active_rows<S: Store>(store: &mut S, alloc: Global) -> Result<Acti
         idents: records(store, alloc)?,
         cards: records(store, alloc)?,
         states: records(store, alloc)?,
+    })
+}
+
+/// The rows of stored runs and of marks.
+pub(crate) fn stored_runs<S: Store>(store: &mut S, alloc: Global) -> Result<StoredRuns, StoreError>
+    requires { IsWhole (S.Store.view store.old) }
+    ensures { Answers S.Store store.old store.new ListsRuns result }
+{
+    Ok(StoredRuns {
+        runs: records(store, alloc)?,
+        marks: records(store, alloc)?,
     })
 }

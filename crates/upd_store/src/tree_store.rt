@@ -1,11 +1,11 @@
 //! The library in the trees of a store below SQL, as a `RowStore` that only reads.
-ghost use Rattle.std.specs.Prelude.{◌≡◌, ◌≤◌};
+ghost use Rattle.std.specs.Prelude.{◌≡◌, ◌≤◌, IfErr};
 ghost use Rattle.upd_row_store.specs.Keeping.{IsLost, failures_with};
-ghost use Rattle.upd_store.specs.TreeReads.{IsWhole};
+ghost use Rattle.upd_store.specs.TreeReads.{Answers, IsWhole, ListsRuns};
 
 use crate::store_faults::{no_memory, refused};
 use crate::tree_finds::{mark_under, run_under};
-use crate::tree_reads::{active_rows, library_rows, records, states};
+use crate::tree_reads::{StoredRuns, active_rows, library_rows, records, states, stored_runs};
 use sqlite_trees::error::StoreError;
 use sqlite_trees::store::Store;
 use std::alloc::Global;
@@ -40,7 +40,6 @@ impl<S: Store + Drop> Drop for TreeStore<S> {
 /// The fault of a read that failed. A failure of the store is counted, out of memory is not.
 fn failed_read(error: StoreError, failures: &mut u64) -> Fault
     ensures lost { IsLost result }
-    ensures at { result.at ≡ 0 }
     ensures count { failures.new ≡ failures_with result.kind failures.old }
     ensures grows { failures.old ≤ failures.new }
 {
@@ -76,6 +75,19 @@ impl<S: Store> Meaning for TreeStore<S> {
     ghost disk_failures_of = { λ s. S.Store.faults s.store };
 
     ghost decks_read_of = { λ s. s.decks_read };
+}
+
+impl<S: Store> TreeStore<S> {
+    /// The stored runs and the marks, in the order of their tables. The fault is NoMemory or Store, at 0.
+    pub fn stored_runs(&mut self, alloc: Global) -> Result<StoredRuns, Fault>
+        ensures answers { Answers S.Store self.old.store self.new.store ListsRuns result }
+        ensures lost { IfErr result IsLost }
+    {
+        match stored_runs(&mut self.store, alloc) {
+            Ok(runs) => Ok(runs),
+            Err(error) => Err(failed_read(error, &mut self.failures)),
+        }
+    }
 }
 
 /// Each write answers Store, counts it and changes nothing.

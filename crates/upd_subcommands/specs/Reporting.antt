@@ -42,7 +42,8 @@ abbrev pub IsWarned : List ℕ → Result ℕ Fault → ℕ → Option (List ℕ
 IsWarned warnings (Ok meant) status faults faults' = IsReported meant warnings status faults faults'
 IsWarned warnings (Err fault) status faults faults' = IsReported (exit_status fault.kind) (fault_line fault) status faults faults'
 
--- A run that was tried is reported by its answer on the output and by its warnings on the fault stream. Where the warnings can't be made, the line of that fault
+-- A run that was tried is reported by its answer on the output and by its warnings on the fault stream. Where the warnings can't be made, the line of that
+-- fault
 -- is reported, and nothing is on the output.
 abbrev pub ReportsTried : Result ReplyView Fault → Result (List ℕ) Fault → Ending → Type 0
 ReportsTried answer (Ok warnings) end =

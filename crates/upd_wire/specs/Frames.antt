@@ -1,6 +1,5 @@
 -- Frames of a spool: how a run is spelled as one, how one is read, and what is not a frame.
-use Rattle.std.specs.Prelude.{◌≡◌, ℕ, ◌+◌, ◌<◌, ◌≤◌, ◌≢◌, ◌==◌, nat_lt, Bool, false, ◌&&◌, List, [], ◌∷◌, ◌++◌, length, take, drop, slice_index}
-use Rattle.std.specs.Prelude.{Option, None}
+use Rattle.std.specs.Prelude.{◌≡◌, ℕ, ◌+◌, ◌<◌, ◌≤◌, ◌≢◌, ◌==◌, nat_lt, Bool, false, ◌&&◌, List, [], ◌∷◌, ◌++◌, length, take, drop, slice_index, Option, None}
 use Rattle.std.specs.List.{flat_map, list_any}
 use Rattle.upd_desk.specs.Arrivals.{ArrivalView}
 use Rattle.upd_wire.specs.declared.header.TheConstants.{MAX_HEADER_BYTES}

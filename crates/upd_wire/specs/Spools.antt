@@ -1,5 +1,5 @@
 -- Spools: their frames, and how the reading of them ends.
-use Rattle.std.specs.Prelude.{◌≡◌, ◌⊎◌, ℕ, ◌+◌, ◌≤◌, ◌≢◌, true, false, IsTrue, List, [], ◌∷◌, ◌++◌, length, Option, None, Result, Ok, Err}
+use Rattle.std.specs.Prelude.{◌≡◌, ◌⊎◌, ℕ, ◌+◌, ◌<◌, ◌≤◌, ◌≢◌, true, false, IsTrue, List, [], ◌∷◌, ◌++◌, length, Option, None, Result, Ok, Err}
 use Rattle.std.specs.Io.KnownBytes.{Appends, Consumes, IsAtEnd}
 use Rattle.std.specs.List.{All, flat_map}
 use Rattle.upd_text.specs.declared.fault.Fault.{Fault}
@@ -93,6 +93,8 @@ module _ {S : Type 0} (meaning : Ghosts S) where
         ⊎ ((frame : ArrivalView) × (fault : Fault) × LosesOne NoMemory frames results frame fault)
     EndsBy BadFrame frames results =
         (taken : List ℕ) × Answered frames results taken × (IsBad taken ⊎ ((length frames ≡ MAX_FRAMES) × (taken ≢ [])))
+    EndsBy CutFrame frames results =
+        (taken : List ℕ) × Answered frames results taken × Stops CutFrame taken input' × (length frames < MAX_FRAMES)
     EndsBy kind frames results = (taken : List ℕ) × Answered frames results taken × Stops kind taken input'
 
     -- How it ends: at the end of the input with the number of frames, or by a fault with the number of the frame behind those that were answered.

@@ -42,7 +42,7 @@ pub use http_exchange::serve_one;
 pub use http_laws::{answers_are_owed, served_calls_continue_the_journal};
 pub use reading::read_up_to;
 pub use request::read_call;
-pub use request_laws::requests_ask_one_thing;
+pub use request_laws::{head_limits_are_these, requests_ask_one_thing};
 pub use routes::{Route, routes_are_plain};
 pub use table::RouteTable;
 pub use writing::write_parts;

@@ -14,7 +14,8 @@ use Rattle.upd_text.specs.declared.fault.FaultKind.TheVariants.{NoMemory}
 use Rattle.std.specs.Net.Grammar.{IsSocketText}
 use Rattle.upd_words.specs.Operands.{IsNoAddress, card_read, name_read, number_read}
 use Rattle.upd_words.specs.declared.words.Request.{Request}
-use Rattle.upd_words.specs.declared.words.Request.TheVariants.{Trial, Init, Library, Runs, Sites, Backup, Examine, Replay, Migrate, Explain, Shown, Unread, NoAddress}
+use Rattle.upd_words.specs.declared.words.Request.TheVariants.{Trial, Init, Library, Runs, Sites, Backup, Examine, Replay, Migrate, Explain, Shown, Unread}
+use Rattle.upd_words.specs.declared.words.Request.TheVariants.{NoAddress}
 use Rattle.upd_words.specs.declared.words.Command.{Command}
 use Rattle.upd_words.specs.declared.words.Command.TheVariants.{Run, Settle, Spool, Serve, Correct, CorrectParts, Try, Ask}
 use Rattle.upd_words.specs.declared.querying.Query.{Query}
