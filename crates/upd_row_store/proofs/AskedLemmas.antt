@@ -20,12 +20,12 @@ pub or_nothing : (b : Bool) → (b || false) ≡ b
 or_nothing true = refl
 or_nothing false = refl
 
-module _ (cards : List CardRef) (i : ℕ) (c : CardRef) (inside : i < length cards) (is : c ≡ get_or cards i c) where
-  pub cards_next : take (i + 1) cards ≡ take i cards ++ c ∷ []
+module _ {A : Type 0} (cards : List A) (i : ℕ) (c : A) (inside : i < length cards) (is : c ≡ get_or cards i c) where
+  cards_next : take (i + 1) cards ≡ take i cards ++ c ∷ []
   cards_next = take_more cards i c inside ∙ ap (λ x. take i cards ++ x ∷ []) (sym is)
 
   -- a test of cards that passes what it passed before, and what it passes of one card more
-  pub known_next : {K : Type 0} (has : CardRef → K → Bool) (before after : K → Bool) → ((k : K) → before k ≡ list_any (λ r. has r k) (take i cards))
+  pub known_next : {K : Type 0} (has : A → K → Bool) (before after : K → Bool) → ((k : K) → before k ≡ list_any (λ r. has r k) (take i cards))
       → ((k : K) → after k ≡ cond (has c k) true (before k)) → (k : K) → after k ≡ list_any (λ r. has r k) (take (i + 1) cards)
   known_next has before after known put k =
       put k ∙ ap (cond (has c k) true) (known k) ∙ turn (has c k) (list_any (λ r. has r k) (take i cards))
@@ -38,11 +38,12 @@ module _ (cards : List CardRef) (i : ℕ) (c : CardRef) (inside : i < length car
       turn false true = refl
       turn false false = refl
 
+module _ (cards : List CardRef) (i : ℕ) (c : CardRef) (inside : i < length cards) (is : c ≡ get_or cards i c) where
   -- the set of one card more
   pub set_next : (had has : BTreeSet CardRef) → IsSetOf (take i cards) had
       → ((k : CardRef) → sorted.contains by_name has k ≡ cond (is_eq (by_name c k)) true (sorted.contains by_name had k)) → IsSetOf (take (i + 1) cards) has
   set_next had has before put =
-      known_next (λ (r : CardRef) (k : CardRef). same_ref r k) (sorted.contains by_name had) (sorted.contains by_name has) before
+      known_next cards i c inside is (λ (r : CardRef) (k : CardRef). same_ref r k) (sorted.contains by_name had) (sorted.contains by_name has) before
       (λ k. put k ∙ ap (λ b. cond b true (sorted.contains by_name had k)) (sym (is_same-is_eq c k)))
 
 filter_each : {A : Type 0} (p q : A → Bool) → ((x : A) → p x ≡ q x) → (xs : List A) → filter p xs ≡ filter q xs

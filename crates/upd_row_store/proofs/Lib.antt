@@ -14,3 +14,4 @@ mod RestLemmas
 pub mod AskedLemmas
 pub mod Common
 pub mod MovableLemmas
+pub mod NamedLemmas

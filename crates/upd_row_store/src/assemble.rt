@@ -1,5 +1,11 @@
 //! A library out of its rows, which come in any order.
 ghost use Rattle.std.specs.Prelude.{◌≡◌, ℕ, List, ◌∷◌, ◌++◌, IfOk, OnOk, IsPermutation, length};
+ghost use Rattle.std.specs.BTreeSet as sorted;
+ghost use Rattle.std.specs.Cmp.Lexicographic.{slice_cmp};
+ghost use Rattle.std.specs.List.{filter, list_any};
+ghost use Rattle.std.specs.Ordering.{nat_cmp};
+ghost use Rattle.std.specs.Str.{bytes_eq};
+ghost use Rattle.upd_text.specs.Units.{Bytes};
 ghost use Rattle.upd_core.specs.Library.{LibraryView, empty};
 ghost use Rattle.upd_core.specs.Sound.{IsSound, IsWhole};
 ghost use Rattle.upd_core.specs.declared.ident.Ident.{Ident};
@@ -13,7 +19,7 @@ ghost use Rattle.upd_row_store.specs.PartRows.{AreOfDistinctCards, part_rows};
 use crate::by_card::rows_of;
 use crate::parts::part_of;
 use std::alloc::{AllocError, Global};
-use std::collections::BTreeMap;
+use std::collections::{BTreeMap, BTreeSet};
 use std::mem;
 use upd_core::{Card, CardRef, Deck, Entry, Ident, Library, Rest, Serial, Target};
 use upd_records::{CardRow, EntryRow, LibraryRows, TargetRow};
@@ -201,6 +207,53 @@ fn decks_in(
     Ok(decks)
 }
 
+/// The names of cards as a set.
+fn name_set(alloc: Global, cards: &[CardRow]) -> Result<BTreeSet<Name>, AllocError>
+    ensures { IfOk result (λ set. (name : Bytes) → sorted.contains (slice_cmp nat_cmp) set name
+        ≡ list_any (λ r. bytes_eq r.card.name name) cards.now) }
+{
+    let mut set = BTreeSet::new(alloc);
+    for row in cards {
+        set.insert(row.card.name)?;
+    }
+    Ok(set)
+}
+
+/// The idents that have a name of a set.
+fn idents_named(
+    alloc: Global,
+    idents: &[Ident],
+    names: &BTreeSet<Name>,
+) -> Result<Vec<Ident>, AllocError>
+    ensures { IfOk result (λ named. named.items
+        ≡ filter (λ i. sorted.contains (slice_cmp nat_cmp) names.now i.name) idents.now) }
+{
+    idents
+        .iter()
+        .filter(|ident| names.contains(&ident.name))
+        .copied()
+        .collect(alloc)
+}
+
+/// The same decks. Where the idents are more than the cards, only those of the cards' names are put into a map.
+fn decks_among(
+    alloc: Global,
+    idents: &[Ident],
+    cards: Vec<CardRow>,
+    entries: &[EntryRow],
+    targets: &[TargetRow],
+) -> Result<Vec<Deck>, AllocError>
+    requires { AreEntriesByCard entries.now × AreTargetsByCard targets.now }
+    ensures { IfOk result (λ decks. decks.items ≡ decks_in idents.now entries.now targets.now cards.items) }
+{
+    if idents.len() <= cards.len() {
+        return decks_in(alloc, idents, cards, entries, targets);
+    }
+    let names = name_set(alloc, &cards)?;
+    let named = idents_named(alloc, idents, &names)?;
+    decks_in(alloc, &named, cards, entries, targets)
+}
+
 /// The library of a directory and decks, of which the first is `YANK$$$`, with a rest.
 fn library_with(alloc: Global, idents: Vec<Ident>, decks: Vec<Deck>, rest: Rest) -> Library
     ensures { result ≡ record (library_of idents.items decks.items) { rest = rest } }
@@ -233,7 +286,7 @@ fn idents_and_decks(alloc: Global, rows: LibraryRows) -> Result<(Vec<Ident>, Vec
     let cards = by_place(rows.cards);
     let entries = entries_by_card(rows.entries);
     let targets = targets_by_card(rows.targets);
-    let decks = decks_in(alloc, &idents, cards, &entries, &targets)?;
+    let decks = decks_among(alloc, &idents, cards, &entries, &targets)?;
     Ok((idents, decks))
 }
 
