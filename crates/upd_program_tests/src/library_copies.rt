@@ -2,7 +2,6 @@
 use crate::console::{accepts, answers, fresh, library, remove};
 use crate::file_sessions::{Step, take_all};
 use std::fs;
-use std::fs::Permissions;
 use std::os::unix::fs::{PermissionsExt, symlink};
 use std::test::Fail;
 use upd_testkit::check::{holds, same};
@@ -112,25 +111,19 @@ fn a_copy_follows_no_link(rt: HostRuntime) -> Result<(), Fail> {
     remove(&rt, &file)
 }
 
-/// A library that only its owner may read and write.
-fn private(rt: &HostRuntime, name: &str) -> Result<String, Fail> {
-    let file = library(rt, name)?;
-    fs::set_permissions(rt, file.as_str(), Permissions::from_mode(0o600))?;
-    Ok(file)
-}
-
-/// A copy may be read and written by its owner only, and nothing is beside it.
-fn is_private(rt: &HostRuntime, copy: &str) -> Result<(), Fail> {
-    let mode = fs::metadata(rt, copy)?.permissions().mode();
-    same("the rights", mode & 0o777, 0o600)?;
-    is_free(rt, copy, ".part")
+/// A file may be read and written by its owner only.
+fn is_private(rt: &HostRuntime, file: &str) -> Result<(), Fail> {
+    let mode = fs::metadata(rt, file)?.permissions().mode();
+    same("the rights", mode & 0o777, 0o600)
 }
 
 #[test]
-fn a_copy_has_no_more_rights_than_its_library(rt: HostRuntime) -> Result<(), Fail> {
-    let (file, copy) = (private(&rt, "private")?, fresh(&rt, "private-copy")?);
+fn a_new_library_and_its_copy_are_their_owners(rt: HostRuntime) -> Result<(), Fail> {
+    let (file, copy) = (library(&rt, "private")?, fresh(&rt, "private-copy")?);
+    is_private(&rt, &file)?;
     copies(&rt, &file, &copy)?;
     is_private(&rt, &copy)?;
+    is_free(&rt, &copy, ".part")?;
     remove(&rt, &copy)?;
     remove(&rt, &file)
 }

@@ -24,7 +24,9 @@ use crate::sql_store::SqlStore;
 use crate::store_faults::{fault_of, no_memory, store_at};
 use sqlite::{Connection, FileFrom, FileStore, Files, Start};
 use sqlite_disk::Disk;
+use std::fs::OpenOptions;
 use std::io::Read;
+use std::os::unix::fs::OpenOptionsExt;
 use std::{fs, io};
 use upd_sqlite::Rising;
 use upd_text::Fault;
@@ -62,7 +64,7 @@ impl<S: Start> SqlStore<FileStore<FileFrom<S>>> {
     }
 }
 
-/// Makes an empty library in a file, and the file where it doesn't exist. Where the file has any table the fault is Store,
+/// Makes an empty library in a file, and the file where it doesn't exist, with mode 0600. Where the file has any table the fault is Store,
 /// at the version in the file, 0 where it has none, and no byte of it is changed. An empty file, or one in which this
 /// call was cut off, counts as no file. Where there is no file and the log beside the path has frames, the fault is Store
 /// at 0, and no byte changes. Out of memory is NoMemory at 0.
@@ -75,6 +77,7 @@ pub fn create<S: Start>(rt: &HostRuntime, path: &str, start: S) -> Result<FileLi
     ensures unopened { IfErr result IsUnopened }
 {
     spare_log(rt, path)?;
+    make_private(rt, path);
     let conn = connect_or_make(rt, path, false, start)?;
     match initialized(conn) {
         Ok(store) => Ok(store),
@@ -91,6 +94,16 @@ fn spare_log(rt: &HostRuntime, path: &str) -> Result<(), Fault>
         Err(error) if error.kind() == io::ErrorKind::OutOfMemory => Err(no_memory()),
         _ => Err(store_at(0)),
     }
+}
+
+/// Makes an empty file that only its owner may read and write, where there is none. Where that fails, the open that
+/// follows says why.
+fn make_private(rt: &HostRuntime, path: &str) {
+    let _ = OpenOptions::new()
+        .write(true)
+        .create_new(true)
+        .mode(0o600)
+        .open(rt, path);
 }
 
 // Each function that names a file's store where another takes any store is dear to prove. So each has one such call.
