@@ -74,17 +74,22 @@ ask() {
     }
 }
 
-# Takes a deck: its listing, and its text cut from that, so that both are of one moment.
-take() {
-    ask list -- "$library" "$1" >"$2.list" && sed -n 's/^A [^ ]* //p' "$2.list" >"$2.taken" && cp "$2.taken" "$2.txt"
+# The library's youngest ident.
+youngest() {
+    ask idents -- "$library" >"$work/idents" && grep -v ' purged$' "$work/idents" | tail -n 1 | cut -d ' ' -f 2
 }
 
-# Makes the run of the set from the texts, each against its listing: one run, since no deck's corrections name another's cards.
+# Takes a deck's text as it was when the ident SINCE was the youngest.
+take() {
+    ask text-at -- "$library" "$1" "$since" >"$2.taken" && cp "$2.taken" "$2.txt"
+}
+
+# Makes the run of the set from the texts, each as of SINCE: one run, since no deck's corrections name another's cards.
 correct() {
     : >"$work/run" || exit 3
     from=1
     for text in "$work"/*.txt; do
-        ask correct -- "${text%.txt}.list" "$set" <"$text" >"$work/part" || {
+        ask correct-at -- "$library" "$set" "$since" <"$text" >"$work/part" || {
             say "${text##*/} is refused"
             return 1
         }
@@ -143,6 +148,11 @@ send() {
 }
 
 given=$set count=0
+since=$(youngest) || exit $?
+[ -n "$since" ] || {
+    say "the library has no decks"
+    exit 1
+}
 for deck; do
     count=$((count + 1))
     if grep -qsxF -e "$deck" "$work/decks"; then

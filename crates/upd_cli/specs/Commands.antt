@@ -80,11 +80,6 @@ EndsSilently ended status faults faults' = IfErr ended (λ fault. exit_status fa
 
 -- Connections to files, and what the file held before.
 module _ {D : Type 0} (g : DiskGhosts D) (held : Image) where
-  -- a list was asked, and output, fault stream and status tell how
-  abbrev pub IsListed : Listed → Ending → Type 0
-  IsListed list end =
-      (ended : Result ℕ Fault) × LeavesList g held list ended end.output end.output' × IsEndOf ended end.status end.faults end.faults'
-
   -- an empty library was made in the file, which is closed; or that failed
   abbrev pub IsInitialized : ℕ → Option (List ℕ) → Option (List ℕ) → Type 0
   IsInitialized status faults faults' = (ended : Result (Option (Files D)) Fault)
@@ -110,6 +105,11 @@ module _ {S D : Type 0} {g : DiskGhosts D} (meaning : Ghosts S) (conn_of : S →
       × Leaves meaning conn_of held below store_of first input output (record faults { new = mid }) command ended
       × IsEndOf ended status (faults.bytes mid) (after faults)
 
+  -- a list was asked, and output, fault stream and status tell how
+  abbrev pub IsListed : Listed → Ending → Type 0
+  IsListed list end =
+      (ended : Result ℕ Fault) × LeavesList g held b first list ended end.output end.output' × IsEndOf ended end.status end.faults end.faults'
+
   -- nothing went to the output
   abbrev pub IsSilent : Type 0
   IsSilent = Appends (before output) (after output) []
@@ -120,8 +120,8 @@ module _ {S D : Type 0} {g : DiskGhosts D} (meaning : Ghosts S) (conn_of : S →
       (run : List ℕ) × IsInput (before input) run × Answers (answer_to (trial_named mode.now run)) (ending_of status output faults)
   IsDone (Init file) status = IsSilent × IsInitialized g held status (before faults) (after faults)
   IsDone (Library file command) status = IsCarriedOut command status
-  IsDone (Runs file) status = IsListed g held listed.Runs (ending_of status output faults)
-  IsDone (Sites file) status = IsListed g held listed.Sites (ending_of status output faults)
+  IsDone (Runs file) status = IsListed listed.Runs (ending_of status output faults)
+  IsDone (Sites file) status = IsListed listed.Sites (ending_of status output faults)
   IsDone (Backup file copy) status = IsSilent × IsBackedUp g held status (before faults) (after faults)
   IsDone (Examine file) status = IsExamined (file_state {g = g}) held (ending_of status output faults)
   IsDone (Replay file) status = IsReplayed g held (ending_of status output faults)

@@ -17,7 +17,7 @@ use Rattle.upd_subcommands.specs.Inputs.{Frames, IsFirstRead, ReadsFirst}
 use Rattle.upd_subcommands.specs.ListingFile.{CorrectsListed}
 use Rattle.upd_subcommands.specs.Streams.{Stream, after, before}
 use Rattle.upd_words.specs.declared.words.Command.{Command}
-use Rattle.upd_words.specs.declared.words.Command.TheVariants.{Ask, Correct, CorrectParts, Run, Serve, Spool, Try}
+use Rattle.upd_words.specs.declared.words.Command.TheVariants.{Ask, Correct, CorrectAt, CorrectParts, Run, Serve, Spool, Try}
 use Rattle.upd_cli.specs.Opened.{IsWarmed, OnFile}
 
 -- the ending with this status and these streams
@@ -52,6 +52,7 @@ module _ {S : Type 0} (meaning : Ghosts S) {R W E : Type 0} (input : Stream R) (
 -- it only reads the library
 abbrev pub OnlyReads : Command → Type 0
 OnlyReads (Correct set) = Unit {0}
+OnlyReads (CorrectAt set since) = Unit {0}
 OnlyReads (CorrectParts set site number mode) = Unit {0}
 OnlyReads (Try mode) = Unit {0}
 OnlyReads (Ask query) = Unit {0}

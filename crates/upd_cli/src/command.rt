@@ -95,11 +95,11 @@ fn carry_out<Fi: Start, St: Start, R: Read, W: Write, E: Write>(
             finish_with(ended, faults)
         }
         Request::Runs(file) => {
-            let ended = list_on(rt, file, start, Listed::Runs, output);
+            let ended = list_on(rt, file, first, start, Listed::Runs, output);
             finish_with(ended, faults)
         }
         Request::Sites(file) => {
-            let ended = list_on(rt, file, start, Listed::Sites, output);
+            let ended = list_on(rt, file, first, start, Listed::Sites, output);
             finish_with(ended, faults)
         }
         Request::Backup { file, copy } => finish(backup_file(rt, file, start, copy), faults),

@@ -85,7 +85,10 @@ fn with_text<Fi: Start, St: Start, R: Read, W: Write, E: Write>(
             Ok(None) => at_trees(rt, file, first, start, command, text, input, output, faults),
             Err(fault) => Err(fault),
         },
-        Command::CorrectParts { .. } | Command::Try { .. } | Command::Ask(_) => {
+        Command::CorrectAt { .. }
+        | Command::CorrectParts { .. }
+        | Command::Try { .. }
+        | Command::Ask(_) => {
             at_trees(rt, file, first, start, command, text, input, output, faults)
         }
         _ => at_desk(rt, file, start, command, text, input, output, faults),

@@ -1,6 +1,6 @@
 -- What is made of the library that a desk returned is made of the library after each journal that its store holds.
 use Rattle.upd_edit.proofs.Common.{◌≡◌, Bool, true, false, length, List, [], ◌∷◌, ℕ, Some, None, Ok, Err, sym, subst, rules, LibraryView, check_arrival}
-use Rattle.upd_edit.proofs.Common.{source, tried}
+use Rattle.upd_edit.proofs.Common.{ap, source, tried}
 use Rattle.std.proofs.Common.{inl, inr, nat_lt, Option, Result, IsErrAnd}
 use Rattle.std.specs.Result.{result_map_both}
 use Rattle.upd_text.specs.declared.fault.Fault.{Fault}
@@ -20,6 +20,9 @@ use Rattle.upd_desk.specs.Journal.{library_after}
 use Rattle.upd_desk.specs.Made.{IsMade}
 use Rattle.upd_desk.proofs.MadeLemmas.{library_made}
 use Rattle.upd_desk.proofs.QueryLemmas.{compile_keeps}
+use Rattle.upd_edit.specs.Earlier.{as_of}
+use Rattle.upd_edit.specs.EditCauses.{edited_in}
+use Rattle.upd_edit.specs.declared.editing.TheConstants.{MAX_TEXT_BYTES}
 
 module _ {S : Type 0} (meaning : Ghosts S) where
   -- an answer that is right of the library that was returned
@@ -77,3 +80,7 @@ tried_keeps mode run f is = by_mode (mode_named mode) is
         → is_lost f.kind ≡ false
     by_mode None is = grind rules
     by_mode (Some m) is = by_length m (nat_lt MAX_RUN_BYTES (length run)) is
+
+-- a text that isn't too long is edited in the library of its time
+pub fitting : (text since : List ℕ) (l : LibraryView) → nat_lt MAX_TEXT_BYTES (length text) ≡ false → edited_in text since l ≡ as_of since l
+fitting text since l is = ap (λ long. at_line 0 (refuse_if long RunLong) >>= (λ _. as_of since l)) is

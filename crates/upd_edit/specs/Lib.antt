@@ -1,4 +1,5 @@
 pub mod ActiveText
+pub mod Earlier
 pub mod Source
 pub mod Trying
 pub mod RefusalLines

@@ -1,5 +1,5 @@
 //! The same of the library that a desk holds. Nothing changes, and no number is used.
-ghost use Rattle.std.specs.Prelude.{◌≡◌, ◌<◌, ◌≤◌, ◌⊎◌, [], Err, IfErr, IfOk, Ok, OnOk, length, map};
+ghost use Rattle.std.specs.Prelude.{◌≡◌, ◌<◌, ◌≤◌, ◌⊎◌, ℕ, [], Err, IfErr, IfOk, Ok, OnOk, length, map};
 ghost use Rattle.std.specs.Result.{result_map_both};
 ghost use Rattle.upd_text.specs.Faults.{fault_at};
 ghost use Rattle.upd_text.specs.declared.fault.FaultKind.TheVariants.{RunLong};
@@ -11,7 +11,8 @@ ghost use Rattle.upd_desk.specs.Holding.{EachHeld, Tells};
 ghost use Rattle.upd_desk.specs.Journal.{library_after};
 ghost use Rattle.upd_desk.specs.Outcomes.{reply_on};
 ghost use Rattle.upd_edit.specs.ActiveText.{active_text};
-ghost use Rattle.upd_edit.specs.EditCauses.{IsEditCause, IsEditLoss, IsPartsRefusal, failures_after_edit};
+ghost use Rattle.upd_edit.specs.Earlier.{as_of};
+ghost use Rattle.upd_edit.specs.EditCauses.{IsAnswerIn, IsEditCause, IsEditLoss, IsPartsRefusal, edited_in, failures_after_edit};
 ghost use Rattle.upd_edit.specs.Source.{source};
 ghost use Rattle.upd_edit.specs.Trying.{tried};
 ghost use Rattle.upd_edit.specs.Warnings.{warning_lines};
@@ -19,10 +20,11 @@ ghost use Rattle.upd_row_store.specs.Keeping.{CountsFailure, IsLost, Keeps};
 
 use crate::deck_source::source;
 use crate::deck_text::active_text;
+use crate::earlier::as_of;
 use crate::warnings::warning_lines;
 use std::alloc::Global;
 use upd_compile::CompileFile;
-use upd_core::Name;
+use upd_core::{Library, Name};
 use upd_correct::{CorrectError, Refusal, correct, correct_parts};
 use upd_desk::{Arrival, Desk, Reply, reply_on};
 use upd_row_store::RowStore;
@@ -152,6 +154,55 @@ pub fn correct_at<S: RowStore>(
     }
     match desk.library(alloc) {
         Ok(library) => match correct(alloc, &library, set, text) {
+            Ok(run) => Ok(run),
+            Err(CorrectError::NoMemory) => Err(EditError::Failed(
+                FaultKind::NoMemory.without_line(),
+            )),
+            Err(CorrectError::Refused(refusals)) => Err(EditError::Refused(refusals)),
+        },
+        Err(fault) => Err(EditError::Failed(fault)),
+    }
+}
+
+/// The run that leads decks to their edited texts in the library as it was when an ident was the youngest: what came
+/// later is left alone. RunLong comes first, then the fault of `as_of`, at 0, and then the refusals of `correct_at`. After
+/// NoMemory or Store, at 0, it can be asked again.
+pub fn correct_since<S: RowStore>(
+    alloc: Global,
+    desk: &mut Desk<S>,
+    since: &Name,
+    set: &[u8],
+    text: &[u8],
+) -> Result<Vec<u8>, EditError>
+    ensures answer { EachHeld S.Meaning desk.old.store desk.new.store
+        (λ journal. IsAnswerIn (edited_in text.now since.now (library_after journal)) set.now text.now
+        (result_map_both (λ run. run.items) (λ error. error) result)) }
+    ensures leaves { Keeps S.Meaning desk.old.store desk.new.store
+        × (S.failures_of desk.new.store ≡ failures_after_edit result (S.failures_of desk.old.store)) }
+{
+    if text.len() > MAX_TEXT_BYTES {
+        return Err(EditError::Failed(FaultKind::RunLong.without_line()));
+    }
+    match desk.library(alloc) {
+        Ok(library) => corrected_since(alloc, &library, since, set, text),
+        Err(fault) => Err(EditError::Failed(fault)),
+    }
+}
+
+/// The same of a library, for a text that is not too long.
+fn corrected_since(
+    alloc: Global,
+    library: &Library,
+    since: &Name,
+    set: &[u8],
+    text: &[u8],
+) -> Result<Vec<u8>, EditError>
+    ensures answer { IsAnswerIn (as_of since.now library.now) set.now text.now
+        (result_map_both (λ run. run.items) (λ error. error) result) }
+    ensures kept { (failures : ℕ) → failures_after_edit result failures ≡ failures }
+{
+    match as_of(alloc, library, since) {
+        Ok(earlier) => match correct(alloc, &earlier, set, text) {
             Ok(run) => Ok(run),
             Err(CorrectError::NoMemory) => Err(EditError::Failed(
                 FaultKind::NoMemory.without_line(),

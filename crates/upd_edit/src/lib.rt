@@ -6,6 +6,7 @@
 
 pub mod deck_source;
 pub mod deck_text;
+pub mod earlier;
 pub mod editing;
 mod near_words;
 pub mod refused;
@@ -15,8 +16,10 @@ mod yank_warnings;
 
 pub use deck_source::source;
 pub use deck_text::active_text;
+pub use earlier::as_of;
 pub use editing::{
-    EditError, MAX_TEXT_BYTES, correct_at, parts_at, source_at, text_at, try_at, warnings_at,
+    EditError, MAX_TEXT_BYTES, correct_at, correct_since, parts_at, source_at, text_at, try_at,
+    warnings_at,
 };
 pub use refused::refusal_lines;
 pub use warnings::warning_lines;

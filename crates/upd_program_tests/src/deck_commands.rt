@@ -86,6 +86,29 @@ fn a_correction_run_leads_decks_to_their_texts(rt: HostRuntime) -> Result<(), Fa
     session(&rt, "correct", STEPS)
 }
 
+/// Deck A was taken before S changed it: what S did stays, and the run T changes the rest.
+#[test]
+fn a_text_that_was_taken_earlier_is_corrected(rt: HostRuntime) -> Result<(), Fail> {
+    const OLD: &str = "*DECK A\nONE\n*CALL C\nTWO\nTHREE\n";
+    const NEW: &str = "*DECK A\nUN\n*CALL C\nTWO\nTHREE\n";
+    const NO_IDENT: Wanted<'_> = (1, "", "upd: IdentUnknown (11) at 0\n");
+    const BAD_NAME: Wanted<'_> = (1, "", "upd: BadName (5) at 0\n");
+    const CHANGES: &str = "*IDENT T\n*DELETE A.2\nUN\n";
+    const STEPS: &[Step<'_>] = &[
+        FIRST,
+        SECOND,
+        Step::Writes("text-at", &["A", "A"], OLD),
+        Step::Writes("text-at", &["A", "S"], TEXT),
+        Step::Answers("text-at", &["B", "A"], "", UNKNOWN),
+        Step::Answers("correct-at", &["T", "Q"], NEW, NO_IDENT),
+        Step::Answers("correct-at", &["T", "a"], NEW, BAD_NAME),
+        Step::Answers("correct-at", &["T", "A"], NEW, (0, CHANGES, "")),
+        Step::Accepts("3", "quick", CHANGES),
+        Step::Writes("text", &["A"], "*DECK A\nUN\n*CALL C\nDEUX\nTHREE\n"),
+    ];
+    session(&rt, "earlier", STEPS)
+}
+
 /// The frame of this run, and what the desk answers it.
 const SPOOL: &str =
     "RUN LYON 3 quick 54\n*IDENT T1\n*DELETE A.2\nUN\n*INSERT A.5\nFOUR\n*DECK B\nNEW\n\n";

@@ -20,11 +20,12 @@ use Rattle.upd_subcommands.specs.Correcting.{ReportsCorrection}
 use Rattle.upd_subcommands.specs.Parts.{CorrectsParts}
 use Rattle.upd_subcommands.specs.Reporting.{ReportsMark, ReportsRun, ReportsText, ReportsTried}
 use Rattle.upd_edit.specs.ActiveText.{active_text}
+use Rattle.upd_edit.specs.Earlier.{text_since}
 use Rattle.upd_edit.specs.Source.{source}
 use Rattle.upd_edit.specs.Trying.{tried}
 use Rattle.upd_edit.specs.Warnings.{warning_lines}
 use Rattle.upd_edit.specs.declared.editing.TheConstants.{MAX_TEXT_BYTES}
-use Rattle.upd_edit.specs.EditCauses.{IsEditCause, IsEditLoss, failures_after_edit}
+use Rattle.upd_edit.specs.EditCauses.{IsAnswerIn, IsEditCause, IsEditLoss, edited_in, failures_after_edit}
 use Rattle.upd_edit.specs.declared.editing.EditError.{EditError}
 use Rattle.upd_edit.specs.declared.editing.EditError.TheVariants.{Failed}
 use Rattle.upd_correct.specs.Correcting.{CorrectsTo}
@@ -37,7 +38,7 @@ use Rattle.upd_wire.specs.Spools.{Ends}
 use Rattle.upd_wire.specs.Serving.{LeadsThrough, Made}
 use Rattle.upd_subcommands.specs.Listening.{ReportsServing}
 use Rattle.upd_words.specs.declared.words.Command.{Command}
-use Rattle.upd_words.specs.declared.words.Command.TheVariants.{Run, Settle, Spool, Serve, Correct, CorrectParts, Try, Ask}
+use Rattle.upd_words.specs.declared.words.Command.TheVariants.{Run, Settle, Spool, Serve, Correct, CorrectAt, CorrectParts, Try, Ask}
 use Rattle.upd_words.specs.declared.querying.Query.{Query}
 use Rattle.upd_words.specs.declared.querying.Query.TheVariants.{Compile, Deck, Card, Idents, Yanks, View}
 use Rattle.upd_words.specs.declared.querying.View as views
@@ -53,6 +54,7 @@ view_text (view.Blame name) l = blame name l
 view_text (view.Ident name) l = show name l
 view_text view.Page l = Ok (page l)
 view_text (view.Text name) l = active_text name l
+view_text (view.TextAt name since) l = text_since name since l
 view_text (view.Source name) l = file_text (source name l)
 
 -- what a query is answered of a library
@@ -105,6 +107,12 @@ module _ {S : Type 0} (meaning : Ghosts S) where
   abbrev pub CorrectsText : List ℕ → List ℕ → S → S → Ending → Type 0
   CorrectsText set text old new end = (answer : Result (List ℕ) EditError) × IsCorrection set text answer old new × ReportsCorrection answer end
 
+  -- an edited text that was taken when an ident was the youngest was answered by a run, and the answer was told; nothing is changed
+  abbrev pub CorrectsSince : List ℕ → List ℕ → List ℕ → S → S → Ending → Type 0
+  CorrectsSince since set text old new end = (answer : Result (List ℕ) EditError)
+      × EachHeld meaning old new (λ journal. IsAnswerIn (edited_in text since (library_after journal)) set text answer)
+      × Keeps meaning old new × (meaning.failures_of new ≡ failures_after_edit answer (meaning.failures_of old)) × ReportsCorrection answer end
+
   -- a site was settled, and its mark was told
   abbrev pub SettlesSite : List ℕ → ℕ → Result ℕ Fault → S → S → Option (List ℕ) → Option (List ℕ) → Type 0
   SettlesSite site number result old new output output' =
@@ -144,6 +152,8 @@ module _ {S : Type 0} (meaning : Ghosts S) where
   Does (Serve address count) text ended old new input output faults = EndsServing count ended old new (before faults) (after faults)
   Does (Correct set) text ended old new input output faults =
       IsOkAnd ended (λ status. CorrectsText set.now text old new (ending status (before output) (after output) (before faults) (after faults)))
+  Does (CorrectAt set since) text ended old new input output faults =
+      IsOkAnd ended (λ status. CorrectsSince since set.now text old new (ending status (before output) (after output) (before faults) (after faults)))
   Does (CorrectParts set site number mode) text ended old new input output faults =
       IsOkAnd ended (λ status. CorrectsParts meaning set.now site.now number mode.now text old new
       (ending status (before output) (after output) (before faults) (after faults)))

@@ -5,7 +5,7 @@ use Rattle.upd_edit.specs.declared.editing.TheConstants.{MAX_TEXT_BYTES}
 use Rattle.upd_text.specs.declared.fault.Fault.{Fault}
 use Rattle.upd_text.specs.declared.limits.TheConstants.{MAX_RUN_BYTES}
 use Rattle.upd_words.specs.declared.words.Command.{Command}
-use Rattle.upd_words.specs.declared.words.Command.TheVariants.{Run, Spool, Serve, Correct, CorrectParts, Try}
+use Rattle.upd_words.specs.declared.words.Command.TheVariants.{Run, Spool, Serve, Correct, CorrectAt, CorrectParts, Try}
 use Rattle.upd_words.specs.declared.words.Request.{Request}
 use Rattle.upd_words.specs.declared.words.Request.TheVariants.{Trial, Library}
 use Rattle.upd_subcommands.specs.Status.{exit_status}
@@ -27,6 +27,7 @@ HandsRuns _ = ⊥
 -- it reads its input before the file is opened
 abbrev pub ReadsFirst : Command → Type 0
 ReadsFirst (Correct set) = Unit {0}
+ReadsFirst (CorrectAt set since) = Unit {0}
 ReadsFirst (CorrectParts set site number mode) = Unit {0}
 ReadsFirst (Try mode) = Unit {0}
 ReadsFirst _ = ⊥
@@ -45,12 +46,14 @@ UsesFaults _ = ⊥
 -- at most this number of bytes of the input is read, but by `spool`: a byte more than a run or an edited text may have
 abbrev pub most_read : Command → ℕ
 most_read (Correct set) = MAX_TEXT_BYTES + 1
+most_read (CorrectAt set since) = MAX_TEXT_BYTES + 1
 most_read (CorrectParts set site number mode) = MAX_TEXT_BYTES + 1
 most_read _ = MAX_RUN_BYTES + 1
 
 -- what is read before the file is opened
 abbrev pub IsFirstRead : Command → Option (List ℕ) → Option (List ℕ) → List ℕ → Type 0
 IsFirstRead (Correct set) input input' text = IsFrontOf (MAX_TEXT_BYTES + 1) input text
+IsFirstRead (CorrectAt set since) input input' text = IsFrontOf (MAX_TEXT_BYTES + 1) input text
 IsFirstRead (CorrectParts set site number mode) input input' text = IsFrontOf (MAX_TEXT_BYTES + 1) input text
 IsFirstRead (Try mode) input input' text = IsRunOn input text
 IsFirstRead _ input input' text = input' ≡ input

@@ -10,7 +10,7 @@ ghost use Rattle.upd_text.specs.declared.fault.Fault.{Fault};
 ghost use Rattle.upd_text.specs.declared.limits.TheConstants.{MAX_RUN_BYTES};
 
 use crate::arriving::{hand_in, settle, try_run};
-use crate::correction_command::correct_text;
+use crate::correction_command::{correct_text, correct_text_since};
 use crate::exit_status::DONE;
 use crate::listening::report_place;
 use crate::parts_command::correct_text_in_parts;
@@ -26,7 +26,7 @@ use upd_text::{Fault, FaultKind};
 use upd_wire::{serve_on_within, spool};
 use upd_words::Command;
 
-/// What `try`, `correct` and `correct-parts` read of the input before the file is opened, so that it can come from a command on the same
+/// What `try` and the commands for edited texts read of the input before the file is opened, so that it can come from a command on the same
 /// file. Nothing for another command.
 pub fn read_first<R: Read>(
     alloc: Global,
@@ -41,7 +41,7 @@ pub fn read_first<R: Read>(
 {
     match command {
         Command::Try { .. } => read_input(alloc, input),
-        Command::Correct { .. } | Command::CorrectParts { .. } => {
+        Command::Correct { .. } | Command::CorrectAt { .. } | Command::CorrectParts { .. } => {
             read_front(alloc, input, MAX_TEXT_BYTES + 1)
         }
         _ => Ok(Vec::new(alloc)),
@@ -79,6 +79,9 @@ pub fn carry_out_at<S: RowStore, R: Read, W: Write, E: Write>(
         Command::Spool => read_spool(alloc, desk, input, output),
         Command::Serve { address, count } => serve(rt, *address, *count, desk, faults),
         Command::Correct { set } => Ok(correct_text(alloc, desk, set, text, output, faults)),
+        Command::CorrectAt { set, since } => Ok(correct_text_since(
+            alloc, desk, since, set, text, output, faults,
+        )),
         Command::CorrectParts {
             set,
             site,

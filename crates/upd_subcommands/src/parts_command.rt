@@ -10,8 +10,7 @@ ghost use Rattle.upd_subcommands.specs.Command.{ending};
 ghost use Rattle.upd_subcommands.specs.Parts.{CorrectsParts, IsAdmitted, IsSpoolTo, frames_from};
 ghost use Rattle.upd_wire.specs.Frames.{frame_text, frames_text};
 
-use crate::correction_command::{write_refusals, write_run};
-use crate::exit_status::finish;
+use crate::correction_command::report_correction;
 use itoa::Buffer;
 use std::alloc::{AllocError, Global};
 use std::io::Write;
@@ -43,11 +42,8 @@ pub(crate) fn correct_text_in_parts<S: RowStore, W: Write, E: Write>(
     ensures silent { (result ≡ 1) ⊎ (result ≡ 2) → output.new ≡ output.old }
     ensures clean { result ≡ 0 → faults.new ≡ faults.old }
 {
-    match spool_at(alloc, desk, set, site, number, mode, text) {
-        Ok(spool) => write_run(&spool, output, faults),
-        Err(EditError::Failed(fault)) => finish(Err(fault), faults),
-        Err(EditError::Refused(refusals)) => write_refusals(alloc, &refusals, faults),
-    }
+    let answer = spool_at(alloc, desk, set, site, number, mode, text);
+    report_correction(alloc, answer, output, faults)
 }
 
 /// The spool for an edited text.

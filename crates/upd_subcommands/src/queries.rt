@@ -14,7 +14,7 @@ use std::alloc::Global;
 use std::io::Write;
 use upd_core::Library;
 use upd_desk::Desk;
-use upd_edit::{active_text, source};
+use upd_edit::{active_text, as_of, source};
 use upd_row_store::RowStore;
 use upd_text::Fault;
 use upd_views::{blame, page, show};
@@ -90,6 +90,10 @@ fn view_text(alloc: Global, library: &Library, view: &View) -> Result<Vec<u8>, F
             Err(fault) => Err(fault),
         },
         View::Text(name) => active_text(alloc, library, name),
+        View::TextAt { deck, since } => {
+            let earlier = as_of(alloc, library, since)?;
+            active_text(alloc, &earlier, deck)
+        }
         View::Source(name) => match source(alloc, library, name) {
             Ok(file) => Ok(file.bytes),
             Err(fault) => Err(fault),

@@ -17,10 +17,10 @@ use Rattle.upd_words.specs.declared.words.Request.{Request}
 use Rattle.upd_words.specs.declared.words.Request.TheVariants.{Trial, Init, Library, Runs, Sites, Backup, Examine, Replay, Migrate, Explain, Shown, Unread}
 use Rattle.upd_words.specs.declared.words.Request.TheVariants.{NoAddress}
 use Rattle.upd_words.specs.declared.words.Command.{Command}
-use Rattle.upd_words.specs.declared.words.Command.TheVariants.{Run, Settle, Spool, Serve, Correct, CorrectParts, Try, Ask}
+use Rattle.upd_words.specs.declared.words.Command.TheVariants.{Run, Settle, Spool, Serve, Correct, CorrectAt, CorrectParts, Try, Ask}
 use Rattle.upd_words.specs.declared.querying.Query.{Query}
 use Rattle.upd_words.specs.declared.querying.Query.TheVariants.{Compile, Deck, Card, Idents, Yanks, View}
-use Rattle.upd_words.specs.declared.querying.View.TheVariants.{Blame, Ident, Page, Text as PlainText, Source}
+use Rattle.upd_words.specs.declared.querying.View.TheVariants.{Blame, Ident, Page, Text as PlainText, TextAt, Source}
 
 -- an operand's name, and what its word has to be
 abbrev pub Operand : Type 0
@@ -56,7 +56,9 @@ upd_commands =
     ∷ (codes "yanks", word_of (codes "FILE") ∷ [])
     ∷ (codes "page", word_of (codes "FILE") ∷ [])
     ∷ (codes "text", word_of (codes "FILE") ∷ word_of (codes "DECK") ∷ [])
+    ∷ (codes "text-at", word_of (codes "FILE") ∷ word_of (codes "DECK") ∷ word_of (codes "SINCE") ∷ [])
     ∷ (codes "correct", word_of (codes "FILE") ∷ word_of (codes "SET") ∷ [])
+    ∷ (codes "correct-at", word_of (codes "FILE") ∷ word_of (codes "SET") ∷ word_of (codes "SINCE") ∷ [])
     ∷ (
       codes "correct-parts",
       word_of (codes "FILE") ∷ word_of (codes "SET") ∷ word_of (codes "SITE") ∷ word_of (codes "NUMBER") ∷ word_of (codes "MODE") ∷ [],
@@ -90,7 +92,7 @@ file_commands =
 
 -- those that use it for more than a text about the library, but for `serve`
 abbrev pub desk_commands : List Text
-desk_commands = codes "run" ∷ codes "settle" ∷ codes "spool" ∷ codes "correct" ∷ codes "correct-parts" ∷ codes "try" ∷ []
+desk_commands = codes "run" ∷ codes "settle" ∷ codes "spool" ∷ codes "correct" ∷ codes "correct-at" ∷ codes "correct-parts" ∷ codes "try" ∷ []
 
 -- the program before its first command; `clap` adds a command `help`
 abbrev pub upd_top : App
@@ -142,15 +144,18 @@ query_name (View (Blame name)) = codes "blame"
 query_name (View (Ident name)) = codes "show"
 query_name (View Page) = codes "page"
 query_name (View (PlainText name)) = codes "text"
+query_name (View (TextAt name since)) = codes "text-at"
 query_name (View (Source name)) = codes "source"
 
--- its operand beside FILE, if it has any, is read from the matches
+-- its operands beside FILE, if it has any, are read from the matches
 abbrev pub HasQueried : List Row → Query → Type 0
 HasQueried rows (Deck name) = name_read (operand_in (codes "DECK") rows) ≡ Ok name
 HasQueried rows (Card card) = card_read (operand_in (codes "CARD") rows) ≡ Ok card
 HasQueried rows (View (Blame name)) = name_read (operand_in (codes "DECK") rows) ≡ Ok name
 HasQueried rows (View (Ident name)) = name_read (operand_in (codes "IDENT") rows) ≡ Ok name
 HasQueried rows (View (PlainText name)) = name_read (operand_in (codes "DECK") rows) ≡ Ok name
+HasQueried rows (View (TextAt name since)) =
+    (name_read (operand_in (codes "DECK") rows) ≡ Ok name) × (name_read (operand_in (codes "SINCE") rows) ≡ Ok since)
 HasQueried rows (View (Source name)) = name_read (operand_in (codes "DECK") rows) ≡ Ok name
 HasQueried rows _ = Unit {0}
 
@@ -161,6 +166,7 @@ command_name (Settle site number) = codes "settle"
 command_name Spool = codes "spool"
 command_name (Serve address count) = codes "serve"
 command_name (Correct set) = codes "correct"
+command_name (CorrectAt set since) = codes "correct-at"
 command_name (CorrectParts set site number mode) = codes "correct-parts"
 command_name (Try mode) = codes "try"
 command_name (Ask query) = query_name query
@@ -174,6 +180,7 @@ HasOperands rows Spool = Unit {0}
 HasOperands rows (Serve address count) =
     IsSocketText (operand_in (codes "ADDRESS") rows) address × IsCount (operand_in (codes "COUNT") rows) count
 HasOperands rows (Correct set) = set.now ≡ operand_in (codes "SET") rows
+HasOperands rows (CorrectAt set since) = (set.now ≡ operand_in (codes "SET") rows) × (name_read (operand_in (codes "SINCE") rows) ≡ Ok since)
 HasOperands rows (CorrectParts set site number mode) = (set.now ≡ operand_in (codes "SET") rows) × (site.now ≡ operand_in (codes "SITE") rows)
     × (number_read (operand_in (codes "NUMBER") rows) ≡ Ok number) × (mode.now ≡ operand_in (codes "MODE") rows)
 HasOperands rows (Try mode) = mode.now ≡ operand_in (codes "MODE") rows
@@ -222,9 +229,11 @@ IsNamed name (other ∷ others) = (name ≡ other) ⊎ IsNamed name others
 abbrev pub IsRefused : Text × List Row → Fault → Type 0
 IsRefused (name, rows) fault =
     (IsNamed name (codes "run" ∷ codes "settle" ∷ codes "correct-parts" ∷ []) × (number_read (operand_in (codes "NUMBER") rows) ≡ Err fault))
-    ⊎ ((IsNamed name (codes "list" ∷ codes "blame" ∷ codes "text" ∷ codes "source" ∷ []) × (name_read (operand_in (codes "DECK") rows) ≡ Err fault))
+    ⊎ ((IsNamed name (codes "list" ∷ codes "blame" ∷ codes "text" ∷ codes "text-at" ∷ codes "source" ∷ [])
+    × (name_read (operand_in (codes "DECK") rows) ≡ Err fault))
+    ⊎ ((IsNamed name (codes "text-at" ∷ codes "correct-at" ∷ []) × (name_read (operand_in (codes "SINCE") rows) ≡ Err fault))
     ⊎ (((name ≡ codes "show") × (name_read (operand_in (codes "IDENT") rows) ≡ Err fault))
-    ⊎ ((name ≡ codes "history") × (card_read (operand_in (codes "CARD") rows) ≡ Err fault))))
+    ⊎ ((name ≡ codes "history") × (card_read (operand_in (codes "CARD") rows) ≡ Err fault)))))
 
 -- the command of this name with these operands is read, or one of them is refused
 abbrev pub IsRead : {A : Type 0} → (A → Type 0) → Text × List Row → Result A Fault → Type 0

@@ -22,6 +22,8 @@ pub(crate) const NUMBER: Operand = ("NUMBER", "1 to 999999999", ValueParser::Str
 
 pub(crate) const MODE: Operand = ("MODE", "full, quick or normal", ValueParser::String);
 
+pub(crate) const SINCE: Operand = ("SINCE", "the ident that was youngest", ValueParser::String);
+
 pub(crate) const DECK: Operand = ("DECK", "the name of a deck", ValueParser::String);
 
 /// The help of a command.

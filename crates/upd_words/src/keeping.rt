@@ -3,15 +3,15 @@ ghost use Rattle.std.specs.Prelude.{◌≡◌, IfOk, take};
 ghost use Rattle.clap.specs.Words.{app_of};
 ghost use Rattle.upd_words.specs.Words.{app_with, upd_commands};
 
-use crate::app::{DECK, FILE, MODE, NUMBER, Operand, SITE, Text, with_command};
+use crate::app::{DECK, FILE, MODE, NUMBER, Operand, SINCE, SITE, Text, with_command};
 use crate::querying::fifth_commands;
 use clap::Command;
 use clap::builder::ValueParser;
 use std::alloc::{AllocError, Global};
 
-/// The program with its first twenty-two commands.
+/// The program with its first twenty-four commands.
 pub(crate) fn seventh_commands<'a>(alloc: Global) -> Result<Command<'a>, AllocError>
-    ensures { IfOk result (λ c. app_of c ≡ app_with (take 22 upd_commands)) }
+    ensures { IfOk result (λ c. app_of c ≡ app_with (take 24 upd_commands)) }
 {
     const COPY: Operand = (
         "COPY",
@@ -24,9 +24,9 @@ pub(crate) fn seventh_commands<'a>(alloc: Global) -> Result<Command<'a>, AllocEr
     with_command(app, alloc, "backup", BACKUP, &[FILE, COPY])
 }
 
-/// The program with its first nineteen commands.
+/// The program with its first twenty-one commands.
 fn sixth_commands<'a>(alloc: Global) -> Result<Command<'a>, AllocError>
-    ensures { IfOk result (λ c. app_of c ≡ app_with (take 19 upd_commands)) }
+    ensures { IfOk result (λ c. app_of c ≡ app_with (take 21 upd_commands)) }
 {
     const SET: Operand = (
         "SET",
@@ -35,6 +35,7 @@ fn sixth_commands<'a>(alloc: Global) -> Result<Command<'a>, AllocError>
     );
     let app = fifth_commands(alloc)?;
     let app = with_command(app, alloc, "correct", CORRECT, &[FILE, SET])?;
+    let app = with_command(app, alloc, "correct-at", CORRECT_AT, &[FILE, SET, SINCE])?;
     let parts = [FILE, SET, SITE, NUMBER, MODE];
     let app = with_command(app, alloc, "correct-parts", CORRECT_PARTS, &parts)?;
     let app = with_command(app, alloc, "try", TRY, &[FILE, MODE])?;
@@ -63,6 +64,21 @@ Example, after `upd init library.db`:
   printf '*DECK A\\nONE\\n' | upd run library.db LYON 1 full
   upd text library.db A | sed 's/ONE/TWO/' | upd correct library.db FIX > fix.run
   upd run library.db LYON 2 full < fix.run",
+};
+
+const CORRECT_AT: Text = Text {
+    about: "Writes the run that does what an edit did of a text that `upd text-at` wrote",
+    more: "\
+Reads a text as `upd correct` does, that was taken when the ident SINCE was the youngest, and writes
+the run by SET that does what was edited. What came later is left alone, and a later deck is refused.
+Changes nothing: send the run with `upd run`.
+
+Exit status: 0 done; 1 the text is refused, or SINCE is not a name or no ident; 2 the command line
+can't be read; 3 out of memory, or the library, a read or a write failed.
+
+Example, after `upd init library.db`:
+  printf '*DECK A\\nONE\\n' | upd run library.db LYON 1 full
+  upd text library.db A | sed 's/ONE/TWO/' | upd correct-at library.db FIX A > fix.run",
 };
 
 const CORRECT_PARTS: Text = Text {

@@ -4,7 +4,7 @@ ghost use Rattle.clap.specs.Words.{app_of, found_of, rows_of};
 ghost use Rattle.upd_words.specs.Words.{HasQueried, IsOneOf, IsOther, IsRead, app_with, desk_commands, file_commands};
 ghost use Rattle.upd_words.specs.Words.{query_name, upd_commands};
 
-use crate::app::{DECK, FILE, Operand, Text, with_command};
+use crate::app::{DECK, FILE, Operand, SINCE, Text, with_command};
 use crate::changing::second_commands;
 use crate::operands::{card, name};
 use clap::builder::ValueParser;
@@ -34,6 +34,8 @@ pub enum View {
     Page,
     /// The active cards of a deck as plain text.
     Text(Name),
+    /// The same as it was when an ident was the youngest.
+    TextAt { deck: Name, since: Name },
     /// The compile file of a deck alone.
     Source(Name),
 }
@@ -56,18 +58,23 @@ pub(crate) fn read_query(command: &str, operands: &ArgMatches<'_>) -> Result<Que
         "show" => Ok(Query::View(View::Ident(name(operands, "IDENT")?))),
         "page" => Ok(Query::View(View::Page)),
         "text" => Ok(Query::View(View::Text(name(operands, "DECK")?))),
+        "text-at" => Ok(Query::View(View::TextAt {
+            deck: name(operands, "DECK")?,
+            since: name(operands, "SINCE")?,
+        })),
         _ => Ok(Query::View(View::Source(name(operands, "DECK")?))),
     }
 }
 
-/// The program with its first fifteen commands.
+/// The program with its first sixteen commands.
 pub(crate) fn fifth_commands<'a>(alloc: Global) -> Result<Command<'a>, AllocError>
-    ensures { IfOk result (λ c. app_of c ≡ app_with (take 15 upd_commands)) }
+    ensures { IfOk result (λ c. app_of c ≡ app_with (take 16 upd_commands)) }
 {
     let app = fourth_commands(alloc)?;
     let app = with_command(app, alloc, "yanks", YANKS, &[FILE])?;
     let app = with_command(app, alloc, "page", PAGE, &[FILE])?;
-    with_command(app, alloc, "text", TEXT, &[FILE, DECK])
+    let app = with_command(app, alloc, "text", TEXT, &[FILE, DECK])?;
+    with_command(app, alloc, "text-at", TEXT_AT, &[FILE, DECK, SINCE])
 }
 
 /// The program with its first twelve commands.
@@ -218,4 +225,18 @@ read; 3 out of memory, or the library or a write failed. The fault is one line o
 Example, after `upd init library.db`:
   printf '*DECK A\\nONE\\n' | upd run library.db LYON 1 full
   upd text library.db A",
+};
+
+const TEXT_AT: Text = Text {
+    about: "Writes the text of a deck as it was when the ident SINCE was the youngest",
+    more: "\
+Reads nothing, and writes what `upd text` writes, as if all younger idents were yanked. What was
+purged since is missing. Changes nothing. The last line of `upd idents` names the youngest ident.
+
+Exit status: 0 done; 1 DECK or SINCE is not a name, or there is no such deck or ident; 2 the command
+line can't be read; 3 out of memory, or the library or a write failed.
+
+Example, after `upd init library.db`:
+  printf '*DECK A\\nONE\\n' | upd run library.db LYON 1 full
+  upd text-at library.db A A",
 };

@@ -16,7 +16,7 @@ use clap::{ArgMatches, Error};
 use std::alloc::{AllocError, Global};
 use std::convert::AsStr;
 use std::net::SocketAddr;
-use upd_text::Fault;
+use upd_text::{Fault, Name};
 
 /// What the words of a command line ask for.
 #[derive(Drop)]
@@ -68,6 +68,10 @@ pub enum Command<'a> {
     },
     Correct {
         set: &'a str,
+    },
+    CorrectAt {
+        set: &'a str,
+        since: Name,
     },
     CorrectParts {
         set: &'a str,
@@ -180,6 +184,13 @@ fn read_desk_command<'a>(name: &str, operands: &ArgMatches<'a>) -> Result<Comman
         "correct" => Ok(Command::Correct {
             set: word(operands, "SET"),
         }),
+        "correct-at" => match crate::operands::name(operands, "SINCE") {
+            Ok(since) => Ok(Command::CorrectAt {
+                set: word(operands, "SET"),
+                since,
+            }),
+            Err(fault) => Err(fault),
+        },
         "correct-parts" => match number(operands) {
             Ok(number) => Ok(Command::CorrectParts {
                 set: word(operands, "SET"),

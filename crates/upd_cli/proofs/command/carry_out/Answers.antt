@@ -9,7 +9,7 @@ use Rattle.upd_subcommands.proofs.CommandLemmas.{answered, none_of}
 use Rattle.upd_subcommands.specs.Command.{IsReported, ending}
 use Rattle.upd_cli.specs.Commands.{IsShown, no_address_line}
 use Rattle.upd_cli.proofs.DoneLemmas.{done_as, shown_status}
-use Rattle.upd_cli.proofs.LeavingLemmas.{clean_end, ended_well, not_refused, silent_end}
+use Rattle.upd_cli.proofs.LeavingLemmas.{clean_end, ended_well, list_ends, not_refused, silent_end}
 use Rattle.upd_cli.proofs.command.carry_out.Goals as goal
 
 pub returns-in-Trial-clause-done : goal.returns-in-Trial-clause-done
@@ -61,23 +61,24 @@ returns-in-Library-clause-clean g c = λ other zero.
 pub returns-in-Runs-clause-done : goal.returns-in-Runs-clause-done
 returns-in-Runs-clause-done g c =
     done_as c.args.request.now _ _ c.in-Runs.is
-    (c.list_on-ended.result, c.list_on-ended.ensures.leaves, c.finish_with-in-Runs.ensures.reported)
+    (c.list_on-ended.result, c.list_on-ended.ensures, c.finish_with-in-Runs.ensures.reported)
 
 pub returns-in-Runs-clause-silent : goal.returns-in-Runs-clause-silent
 returns-in-Runs-clause-silent g c =
+    let ends = list_ends _ _ _ _ _ c.list_on-ended.result _ _ c.list_on-ended.ensures in
     not_refused _ _ c.finish_with-in-Runs.result
-    (ended_well c.list_on-ended.result _ _ _ c.finish_with-in-Runs.ensures.reported c.list_on-ended.ensures.status c.list_on-ended.ensures.failed)
+    (ended_well c.list_on-ended.result _ _ _ c.finish_with-in-Runs.ensures.reported ends.0 ends.1)
 
 pub returns-in-Sites-clause-done : goal.returns-in-Sites-clause-done
 returns-in-Sites-clause-done g c =
     done_as c.args.request.now _ _ c.in-Sites.is
-    (c.list_on-ended-in-Sites.result, c.list_on-ended-in-Sites.ensures.leaves, c.finish_with-in-Sites.ensures.reported)
+    (c.list_on-ended-in-Sites.result, c.list_on-ended-in-Sites.ensures, c.finish_with-in-Sites.ensures.reported)
 
 pub returns-in-Sites-clause-silent : goal.returns-in-Sites-clause-silent
 returns-in-Sites-clause-silent g c =
+    let ends = list_ends _ _ _ _ _ c.list_on-ended-in-Sites.result _ _ c.list_on-ended-in-Sites.ensures in
     not_refused _ _ c.finish_with-in-Sites.result
-    (ended_well c.list_on-ended-in-Sites.result _ _ _ c.finish_with-in-Sites.ensures.reported c.list_on-ended-in-Sites.ensures.status
-    c.list_on-ended-in-Sites.ensures.failed)
+    (ended_well c.list_on-ended-in-Sites.result _ _ _ c.finish_with-in-Sites.ensures.reported ends.0 ends.1)
 
 pub returns-in-Backup-clause-done : goal.returns-in-Backup-clause-done
 returns-in-Backup-clause-done g c =

@@ -1,11 +1,8 @@
-use Rattle.std.proofs.Common.{inl}
+use Rattle.std.proofs.Common.{inl, inr}
 use Rattle.upd_cli.proofs.run_queries.list_on.Goals as goal
 
-pub returns-in-Ok-clause-leaves : goal.returns-in-Ok-clause-leaves
-returns-in-Ok-clause-leaves g c =
-    let (last, reports, left) = c.list_tables-ended.ensures.lists in
-    inl (
-      c.into_connection-conn.result,
-      rw c.into_connection-conn.ensures (record { found = c.in-Ok.ensures.found; ours = c.in-Ok.ensures.ours }),
-      (last, reports, tt),
-    )
+pub returns-in-Some : goal.returns-in-Some
+returns-in-Some g c = inr (c.in-Some.library.store, λ clean. (c.in-Some.ensures.found clean, c.in-Some.ensures.ours clean), c.list_trees.ensures)
+
+pub returns-in-None : goal.returns-in-None
+returns-in-None g c = inl c.list_in_sql.ensures
