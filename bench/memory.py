@@ -52,10 +52,7 @@ void *realloc(void *old, size_t size) { return is_refused() ? NULL : __libc_real
 
 NAMES = [
     "memory_of_desks::one_run_survives_a_refusal",
-    "memory_of_desks::yanks_of_yanks_survive_a_refusal",
     "memory_of_desks::purges_survive_a_refusal",
-    "memory_of_desks::calls_of_a_common_deck_survive_a_refusal",
-    "memory_of_desks::six_yanks_in_a_row_survive_a_refusal",
     "memory_of_desks::settlements_survive_a_refusal",
     "memory_of_desks::runs_that_arrive_together_survive_a_refusal",
     "memory_of_streams::a_spool_survives_a_refusal",

@@ -163,7 +163,7 @@ send_until_answered() {
         case $? in
         0) break ;;
         4)
-            say "${run##*/} has no reply, but this answer: $(head -c 500 "$part" 2>/dev/null)"
+            say "${run##*/} has no reply, but this answer: $(head -c 500 "$part" 2>/dev/null | tr -c '[:print:]\n' '?')"
             say "nothing is sent after it; the first lines of $0 say what to do"
             exit 4
             ;;

@@ -1,7 +1,6 @@
 //! What a new run makes of the library that a store keeps.
 
-ghost use Rattle.std.specs.Prelude.{◌≡◌, List};
-ghost use Rattle.std.specs.Prelude.{length, map, Ok, IfErr, IfOk};
+ghost use Rattle.std.specs.Prelude.{◌≡◌, [], List, None, length, map, Ok, IfErr, IfOk};
 ghost use Rattle.std.specs.Result.{IsOkUnless};
 ghost use Rattle.upd_desk.specs.Holding.{FindsMade, OnlyReads, ReadsAtMost};
 ghost use Rattle.upd_text.specs.Faults.{fault_at};
@@ -15,6 +14,7 @@ ghost use Rattle.upd_deck.specs.Reading.{reading};
 ghost use Rattle.upd_apply.specs.Applying.{Reached, applied};
 ghost use Rattle.upd_compile.specs.File.{compile_file_of};
 ghost use Rattle.upd_compile.specs.declared.mode.Mode.{Mode};
+ghost use Rattle.upd_compile.specs.declared.mode.Mode.TheVariants.{Quick};
 ghost use Rattle.upd_partial.specs.Needed.{decks_needed};
 ghost use Rattle.upd_yank.specs.Right.{IsRight, AreStatesOf};
 ghost use Rattle.upd_desk.specs.Arrivals.{check_arrival};
@@ -128,6 +128,7 @@ fn active_before<S: RowStore>(
 ) -> Result<Option<Actives>, Fault>
     ensures found { FindsMade S.Meaning result store.old store.new
         (λ l rows before. ShowsStates rows l → AreActivesFor mode run.now.applied.compile.items l before) }
+    ensures spared { mode ≡ Quick → run.now.applied.compile.items ≡ [] → IfOk result (λ before. before ≡ None) }
     ensures unread { S.decks_read_of store.new ≡ S.decks_read_of store.old }
     ensures leaves { OnlyReads S.Meaning result store.old store.new }
 {

@@ -1,12 +1,12 @@
-//! The row changes of runs on 48,000 cards; `bench/apply.py` times these tests.
+//! The row changes of runs, most of them on 48,000 cards; `bench/apply.py` times these tests.
 use std::alloc::Global;
 use std::test::Fail;
 use upd_core::{Change, Library};
-use upd_testkit::applying::applied;
+use upd_testkit::applying::{after, applied};
 use upd_testkit::check::{same, same_text};
 
 /// A run that introduces a deck of 2,000 cards.
-fn deck_of_2000(alloc: Global, deck: u32) -> Result<String, Fail> {
+pub fn deck_of_2000(alloc: Global, deck: u32) -> Result<String, Fail> {
     let mut text = format!(in alloc; "*DECK DECK{deck}\n")?;
     for _ in 1..2000 {
         text.push_str("      CONTINUE\n")?;
@@ -29,9 +29,9 @@ fn holds_48000_cards(rt: HostRuntime) -> Result<(), Fail> {
     same("the decks", library.decks().len(), 24)
 }
 
-/// A run of 1,998 texts after one card.
-fn texts_at_one_place(alloc: Global) -> Result<String, Fail> {
-    let mut text = String::from_str(alloc, "*IDENT X\n*INSERT DECK7.1000\n")?;
+/// A run of 1,998 texts of a set after one card.
+fn texts_after(alloc: Global, set: &str, card: &str) -> Result<String, Fail> {
+    let mut text = format!(in alloc; "*IDENT {set}\n*INSERT {card}\n")?;
     for _ in 0..1998 {
         text.push_str("TEXT\n")?;
     }
@@ -68,7 +68,7 @@ fn cards_gone(changes: &[Change]) -> u32 {
 /// An ident, a move, and each card with its entry; no card is gone that comes again.
 #[test]
 fn takes_1998_texts_at_one_place_of_48000_cards(rt: HostRuntime) -> Result<(), Fail> {
-    let text = texts_at_one_place(rt.alloc())?;
+    let text = texts_after(rt.alloc(), "X", "DECK7.1000")?;
     let (changes, _) = run_on_48000_cards(rt.alloc(), text.as_str())?;
     let found = moves(rt.alloc(), &changes)?;
     same_text("the moves", found.as_str(), "8 1000 1998\n")?;
@@ -86,4 +86,36 @@ fn purges_40000_of_48000_cards(rt: HostRuntime) -> Result<(), Fail> {
         found,
         (80_020, 40_000, 4),
     )
+}
+
+/// The cards behind one that is gone move, and stay.
+#[test]
+fn cards_behind_a_purged_one_move(rt: HostRuntime) -> Result<(), Fail> {
+    let runs = ["*DECK A\nONE\nTWO\n", "*IDENT X\n*INSERT A.2\nNEW\n"];
+    let mut library = after(rt.alloc(), &runs)?;
+    let changes = applied(&mut library, "*PURGE X\n")?.changes;
+    let found = moves(rt.alloc(), &changes)?;
+    same_text("the moves", found.as_str(), "1 3 -1\n")?;
+    let found = (changes.len(), cards_gone(&changes));
+    same("changes, cards gone", found, (4, 1))
+}
+
+/// A library of one deck of 2,000 cards, with 1,998 more of each of these sets behind them.
+fn with_sets(alloc: Global, sets: u32) -> Result<Library, Fail> {
+    let mut library = with_decks(alloc, 1)?;
+    let mut last = String::from_str(alloc, "DECK0.2000")?;
+    for set in 0..sets {
+        let name = format!(in alloc; "X{set}")?;
+        applied(&mut library, texts_after(alloc, &name, &last)?.as_str())?;
+        last = format!(in alloc; "{name}.1998")?;
+    }
+    Ok(library)
+}
+
+/// The ident, and an entry of the last card.
+#[test]
+fn the_last_of_35966_cards_of_a_deck_is_deleted(rt: HostRuntime) -> Result<(), Fail> {
+    let mut library = with_sets(rt.alloc(), 17)?;
+    let changes = applied(&mut library, "*IDENT Y\n*DELETE X16.1998\n")?.changes;
+    same("changes", changes.len(), 2)
 }

@@ -18,6 +18,8 @@ mod mirrored_runs;
 #[cfg(test)]
 mod random_arrivals;
 #[cfg(test)]
+mod refused_directives;
+#[cfg(test)]
 mod status_updates;
 #[cfg(test)]
 mod steps;

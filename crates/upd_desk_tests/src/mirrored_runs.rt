@@ -1,4 +1,5 @@
 //! Random lists of runs over a store with its rows in memory, and over a plain one: both answer the same.
+use crate::changes_of_runs::deck_of_2000;
 use crate::empty_stores::Fresh;
 use crate::store_answers::{Questions, answers};
 use sqlite::MemStore;
@@ -187,4 +188,23 @@ fn decks_in_memory_count_as_read(rt: HostRuntime) -> Result<(), Fail> {
         found,
         (true, plain.decks_read()),
     )
+}
+
+/// As many cards as there may be.
+fn of_50000_cards(alloc: Global) -> Result<Pair<ListStore>, Fail> {
+    let mut pair = Pair::<ListStore>::new(alloc)?;
+    for deck in 0..25 {
+        pair.run(
+            u64::from(deck).saturating_add(1),
+            deck_of_2000(alloc, deck)?.as_str(),
+        )?;
+    }
+    Ok(pair)
+}
+
+#[test]
+fn all_of_50000_cards_are_in_memory(rt: HostRuntime) -> Result<(), Fail> {
+    let mut pair = of_50000_cards(rt.alloc())?;
+    pair.run(26, "*IDENT X\n*DELETE DECK24.2000\n")?;
+    holds("rows in memory", pair.mirrored.close().has_rows())
 }

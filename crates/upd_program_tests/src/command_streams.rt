@@ -1,13 +1,11 @@
 //! Whole command lines over readers and writers in memory.
 use crate::console::{Answer, answers, ask, is_answer};
-use std::alloc::Global;
 use std::io;
 use std::io::ErrorKind;
 use std::test::Fail;
-use upd_cli::{report_words, run_command, trial};
-use upd_compile::Mode;
+use upd_cli::report_words;
 use upd_testkit::check::same;
-use upd_testkit::fake_streams::{Endless, Narrow, Pieces};
+use upd_testkit::fake_streams::{Endless, Pieces};
 
 fn run_words(rt: &HostRuntime, words: &[&str], mut run: &[u8]) -> Result<Answer, Fail> {
     ask(rt, words, &mut run)
@@ -23,8 +21,6 @@ THREE                                                                           
 ";
 
 const FULL: &[&str] = &["trial", "full"];
-
-const FULL_LINE: &[&str] = &["upd", "trial", "full"];
 
 const CYCLE: &str = "*COMDECK C\n*CALL C\n*DECK A\n*CALL C\n";
 
@@ -59,13 +55,6 @@ fn runs_give_compile_files_or_refusals(rt: HostRuntime) -> Result<(), Fail> {
         (QUICK, INSERTION, 0, "", ""),
         (FULL, "", 0, "", ""),
         (FULL, "HELLO\n", 1, "", "upd: TextNowhere (9) at 1\n"),
-        (
-            &["trial", "Full"],
-            "HELLO\n",
-            1,
-            "",
-            "upd: BadMode (25) at 0\n",
-        ),
         (FULL, "*DECK A\nX\x07\n", 1, "", "upd: BadByte (3) at 2\n"),
         (FULL, CYCLE, 1, "", "upd: CallDepth (21) at 0\n"),
         (QUICK, CYCLE, 0, "", ""),
@@ -74,26 +63,11 @@ fn runs_give_compile_files_or_refusals(rt: HostRuntime) -> Result<(), Fail> {
 }
 
 #[test]
-fn the_mode_is_looked_at_before_the_input(rt: HostRuntime) -> Result<(), Fail> {
-    const SLOW: &[&str] = &["trial", "slow"];
-    let mut input = Pieces::failing(INSERTION.as_bytes(), 1, 1, ErrorKind::Other);
-    let found = ask(&rt, SLOW, &mut input)?;
-    is_answer(&found, (1, "", "upd: BadMode (25) at 0\n"))?;
-    same("reads", input.reads, 0)
-}
-
-#[test]
 fn a_run_that_is_too_long_is_not_read_to_its_end(rt: HostRuntime) -> Result<(), Fail> {
     let mut input = Endless { given: 0 };
     let found = ask(&rt, FULL, &mut input)?;
     is_answer(&found, (1, "", "upd: RunLong (1) at 0\n"))?;
     same("bytes", input.given, 65_537)
-}
-
-#[test]
-fn bytes_that_come_singly_are_the_same_run(rt: HostRuntime) -> Result<(), Fail> {
-    let found = ask(&rt, FULL, &mut Pieces::new(INSERTION.as_bytes(), 1))?;
-    is_answer(&found, (0, INSERTED, ""))
 }
 
 /// The answer if read number `fails_at` of the run fails in this way.
@@ -113,59 +87,6 @@ fn a_failed_read_ends_the_run(rt: HostRuntime) -> Result<(), Fail> {
             let found = run_failing(&rt, fails_at, kind)?;
             is_answer(&found, (3, "", "upd: Read (32) at 0\n"))?;
         }
-    }
-    Ok(())
-}
-
-/// The first bytes of a text of ASCII.
-fn front_of(text: &str, room: usize) -> Result<&str, Fail> {
-    Ok(text.get(..room).ok_or("not that many bytes")?)
-}
-
-/// The answer if the writer of the output has this room.
-fn run_into(rt: &HostRuntime, room: usize) -> Answer {
-    let mut output = Narrow::new(rt.alloc(), room);
-    let mut faults = Vec::new(rt.alloc());
-    let mut run = INSERTION.as_bytes();
-    let status = run_command(rt, FULL_LINE, &mut run, &mut output, &mut faults);
-    Answer {
-        status,
-        output: output.taken,
-        faults,
-    }
-}
-
-#[test]
-fn a_failed_write_leaves_the_front_of_the_output(rt: HostRuntime) -> Result<(), Fail> {
-    for room in 0..INSERTED.len() {
-        let found = run_into(&rt, room);
-        is_answer(
-            &found,
-            (3, front_of(INSERTED, room)?, "upd: Write (33) at 0\n"),
-        )?;
-    }
-    Ok(())
-}
-
-/// The answer if the writer of the fault has this room.
-fn fault_into(rt: &HostRuntime, room: usize) -> Answer {
-    let mut output = Vec::new(rt.alloc());
-    let mut faults = Narrow::new(rt.alloc(), room);
-    let mut run = b"HELLO".as_slice();
-    let status = run_command(rt, FULL_LINE, &mut run, &mut output, &mut faults);
-    Answer {
-        status,
-        output,
-        faults: faults.taken,
-    }
-}
-
-#[test]
-fn a_fault_that_cannot_be_written_has_status_3(rt: HostRuntime) -> Result<(), Fail> {
-    const FAULT: &str = "upd: TextNowhere (9) at 1\n";
-    for room in 0..FAULT.len() {
-        let found = fault_into(&rt, room);
-        is_answer(&found, (3, "", front_of(FAULT, room)?))?;
     }
     Ok(())
 }
@@ -226,13 +147,17 @@ const ABOUT: &[(&str, &str)] = &[
     ("yanks", "Lists the yank cards"),
     ("page", "Writes the library as one page"),
     ("text", "Writes the active cards of a deck"),
+    ("text-at", "Writes the text of a deck as it was"),
     ("correct", "Writes the run that corrects decks"),
+    ("correct-at", "Writes the run that does what an edit"),
     ("correct-parts", "Writes the spool of runs that correct"),
     ("try", "Writes the reply that the run"),
     ("source", "Writes the compile file of one"),
     ("runs", "Lists the stored runs"),
     ("sites", "Lists the sites"),
     ("backup", "Makes a whole copy"),
+    ("examine", "Says what is at a path"),
+    ("replay", "Hands the stored runs"),
     ("migrate", "Migrates the file of an older"),
     ("explain", "Explains a fault"),
 ];
@@ -328,26 +253,4 @@ fn words_that_cannot_be_read_are_reported(rt: HostRuntime) -> Result<(), Fail> {
     is_reported(&mut faults, ErrorKind::InvalidData, 2, line)?;
     let line = "upd: NoMemory (28) at 0\n";
     is_reported(&mut faults, ErrorKind::OutOfMemory, 3, line)
-}
-
-/// A trial of a run has these bytes in this number of lines.
-fn is_tried(
-    alloc: Global,
-    (mode, run, wanted, lines): (Mode, &str, &str, u32),
-) -> Result<(), Fail> {
-    let file = trial(alloc, mode, run.as_bytes())?;
-    same(run, file.bytes.as_slice(), wanted.as_bytes())?;
-    same("the lines", &file.lines, &lines)
-}
-
-#[test]
-fn trials_are_calls(rt: HostRuntime) -> Result<(), Fail> {
-    const TRIALS: &[(Mode, &str, &str, u32)] = &[
-        (Mode::Full, INSERTION, INSERTED, 4),
-        (Mode::Quick, INSERTION, "", 0),
-    ];
-    for tried in TRIALS {
-        is_tried(rt.alloc(), *tried)?;
-    }
-    Ok(())
 }

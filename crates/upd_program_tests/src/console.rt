@@ -65,7 +65,20 @@ pub fn answers(
     is_answer(&found, wanted)
 }
 
-/// A command on the library in a file has this answer: its name, its words after the file, and its input.
+/// The answer of a command on the library in a file: its name, its words after the file, and its input.
+pub fn ask_of<'a>(
+    rt: &HostRuntime,
+    file: &'a str,
+    name: &'a str,
+    words: &[&'a str],
+    input: &str,
+) -> Result<Answer, Fail> {
+    let mut line = vec![in rt.alloc(); name, file]?;
+    line.extend_from_slice(words)?;
+    ask(rt, &line, &mut input.as_bytes())
+}
+
+/// A command on the library in a file has this answer.
 pub fn answers_of<'a>(
     rt: &HostRuntime,
     file: &'a str,
@@ -74,9 +87,8 @@ pub fn answers_of<'a>(
     input: &str,
     wanted: (u8, &str, &str),
 ) -> Result<(), Fail> {
-    let mut line = vec![in rt.alloc(); name, file]?;
-    line.extend_from_slice(words)?;
-    answers(rt, &line, input, wanted)
+    let found = ask_of(rt, file, name, words, input)?;
+    is_answer(&found, wanted)
 }
 
 /// A path of a new library without decks.

@@ -1,5 +1,5 @@
 //! What a command leaves in the tables of a library that has a stored refusal and a mark.
-use crate::console::{fresh, library, remove};
+use crate::console::{ask_of, fresh, library, remove};
 use crate::file_sessions::{SILENT, Step, take_all};
 use crate::served_address::serves;
 use std::test::Fail;
@@ -74,19 +74,46 @@ fn an_examination_changes_no_row(rt: HostRuntime) -> Result<(), Fail> {
     keeps_rows(&rt, "examined", &[YANKED, Step::Examines(SOUND)])
 }
 
-const MADE: Step<'static> = Step::Answers("init", &[], "", (3, "", "upd: Store (29) at 3\n"));
+/// Commands that change nothing, with the words after their file.
+const ASKED: &[(&str, &[&str])] = &[
+    ("run", &["LYON", "1", "full"]),
+    ("run", &["LYON", "2", "full"]),
+    ("run", &["lyon", "5", "full"]),
+    ("settle", &["LYON", "0"]),
+    ("spool", &[]),
+    ("try", &["full"]),
+    ("text", &["A"]),
+    ("text-at", &["A", "A"]),
+    ("correct", &["Z"]),
+    ("correct-at", &["Z", "A"]),
+    ("correct-parts", &["Z", "LYON", "5", "full"]),
+    ("compile", &[]),
+    ("list", &["A"]),
+    ("history", &["A.2"]),
+    ("blame", &["A"]),
+    ("show", &["X"]),
+    ("source", &["A"]),
+    ("idents", &[]),
+    ("runs", &[]),
+    ("sites", &[]),
+    ("replay", &[]),
+    ("init", &[]),
+    ("migrate", &[]),
+];
 
+/// Each is asked over a text of deck A; its answer is not looked at.
 #[test]
-fn a_second_init_changes_no_row(rt: HostRuntime) -> Result<(), Fail> {
-    keeps_rows(&rt, "again", &[YANKED, MADE])
+fn questions_and_refusals_change_no_row(rt: HostRuntime) -> Result<(), Fail> {
+    let file = library(&rt, "asked")?;
+    take_all(&rt, &file, &[SENT, SETTLED, YANKED])?;
+    for (name, words) in ASKED {
+        ask_of(&rt, &file, name, words, "*DECK A\nTWO\n")?;
+    }
+    take_all(&rt, &file, &[ROWS])?;
+    remove(&rt, &file)
 }
 
 const MIGRATED: Step<'static> = Step::Answers("migrate", &[], "", SILENT);
-
-#[test]
-fn a_migration_of_a_current_file_changes_no_row(rt: HostRuntime) -> Result<(), Fail> {
-    keeps_rows(&rt, "current", &[YANKED, MIGRATED])
-}
 
 /// The mark is lost with its table, and is set again.
 #[test]

@@ -20,6 +20,8 @@ const OPERANDS: &[(&str, &[&str], &str)] = &[
     ("settle", &["LYON", "x"], "upd: BadNumber (24) at 0\n"),
     ("list", &["a"], "upd: BadName (5) at 0\n"),
     ("text", &["a"], "upd: BadName (5) at 0\n"),
+    ("text-at", &["a", "A"], "upd: BadName (5) at 0\n"),
+    ("correct-at", &["X", "a"], "upd: BadName (5) at 0\n"),
     ("source", &["a"], "upd: BadName (5) at 0\n"),
     ("history", &["A"], "upd: BadCard (6) at 0\n"),
 ];
@@ -50,7 +52,9 @@ pub const COMMANDS: &[(&str, &[&str])] = &[
     ("idents", &[]),
     ("yanks", &[]),
     ("text", &["A"]),
+    ("text-at", &["A", "A"]),
     ("correct", &["A"]),
+    ("correct-at", &["X", "A"]),
     ("correct-parts", &["A", "LYON", "1", "full"]),
     ("try", &["full"]),
     ("source", &["A"]),

@@ -99,33 +99,29 @@ impl Read for Endless {
     }
 }
 
-/// Takes a byte at a write until its room is full; then it fails, or takes nothing.
+/// Takes a byte at a write until its room is full; then it fails.
 #[derive(Drop)]
 pub struct Narrow {
     pub taken: Vec<u8>,
     room: usize,
-    end: Option<ErrorKind>,
 }
 
 impl Narrow {
-    /// A writer with room for `room` bytes, which fails then.
+    /// A writer with room for `room` bytes.
     pub fn new(alloc: Global, room: usize) -> Narrow {
-        Narrow::after(Vec::new(alloc), room, Some(ErrorKind::BrokenPipe))
+        Narrow::after(Vec::new(alloc), room)
     }
 
-    /// A writer after the bytes of `taken`, with room for `room` more. It then fails by this error, or takes nothing.
-    pub fn after(taken: Vec<u8>, room: usize, end: Option<ErrorKind>) -> Narrow {
-        Narrow { taken, room, end }
+    /// A writer after the bytes of `taken`, with room for `room` more.
+    pub fn after(taken: Vec<u8>, room: usize) -> Narrow {
+        Narrow { taken, room }
     }
 }
 
 impl Write for Narrow {
     fn write(&mut self, buf: &[u8]) -> io::Result<usize> {
         if self.room == 0 || buf.is_empty() {
-            return match self.end {
-                Some(kind) => Err(io::Error::from(kind)),
-                None => Ok(0),
-            };
+            return Err(io::Error::from(ErrorKind::BrokenPipe));
         }
         self.taken.push(buf[0])?;
         self.room -= 1;

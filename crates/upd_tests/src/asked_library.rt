@@ -10,7 +10,7 @@ use upd_compile::{
 };
 use upd_core::{Library, Serial};
 use upd_deck::read_run;
-use upd_testkit::applying::{after, card_ref, name};
+use upd_testkit::applying::{card_ref, name};
 use upd_testkit::check::same_text;
 use upd_text::Fault;
 
@@ -48,19 +48,6 @@ pub type Asked = &'static [(Ask<'static>, &'static str)];
 /// Asks all this of a library that begins empty.
 pub fn check(alloc: Global, asked: &[(Ask<'_>, &str)]) -> Result<(), Fail> {
     AskedLibrary::new(Library::new(alloc)).check(asked)
-}
-
-/// After these runs each of others is refused, with this fault: the library that is left.
-pub fn refused_after(
-    alloc: Global,
-    runs: &[&str],
-    refused: &[(&str, &str)],
-) -> Result<AskedLibrary, Fail> {
-    let mut library = AskedLibrary::new(after(alloc, runs)?);
-    for (run, fault) in refused {
-        library.refuses(run, fault)?;
-    }
-    Ok(library)
 }
 
 /// A library to which runs come one after the other.
@@ -118,11 +105,6 @@ impl AskedLibrary {
             Ok(_) => Ok(String::from_str(self.alloc(), "accepted")?),
             Err(fault) => fault_text(self.alloc(), fault),
         }
-    }
-
-    fn refuses(&mut self, run: &str, fault: &str) -> Result<(), Fail> {
-        let found = self.run(run)?;
-        same_text(run, found.as_str(), fault)
     }
 
     fn long(&mut self, parts: &[Part<'_>]) -> Result<String, Fail> {

@@ -1,6 +1,6 @@
 //! Common decks, calls, modes and the limits of compile files.
 
-use crate::asked_library::{Ask, Asked, check, refused_after};
+use crate::asked_library::{Ask, Asked, check};
 use crate::long_runs::Part;
 use std::test::Fail;
 use upd_compile::Mode;
@@ -59,18 +59,6 @@ fn calls_in_a_deck_that_passes_nothing_on_are_followed(rt: HostRuntime) -> Resul
         (Ask::Active, "C.2 X.1 D.3 B.2"),
     ];
     check(rt.alloc(), ASKED)
-}
-
-#[test]
-fn decks_named_are_looked_up_after_all_lines(rt: HostRuntime) -> Result<(), Fail> {
-    const REFUSED: &[(&str, &str)] = &[
-        ("*COMPILE B.A\n", "RangeOrder (14) at 1"),
-        ("*COMPILE YANK$$$\n", "Reserved (18) at 1"),
-        ("*COMPILE A.YANK$$$\n", "Reserved (18) at 1"),
-        ("*COMPILE YANK$$$\n*DELETE A.2\n", "NoIdent (8) at 2"),
-    ];
-    const ASKED: Asked = &[(Ask::Compiled(Mode::Quick, "*COMPILE A.B\n"), "C.2 B.2")];
-    refused_after(rt.alloc(), &[COMMON], REFUSED)?.check(ASKED)
 }
 
 #[test]

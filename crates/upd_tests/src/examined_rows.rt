@@ -219,7 +219,7 @@ fn a_run_at_the_mark_is_found(rt: HostRuntime) -> Result<(), Fail> {
 #[test]
 fn a_reply_of_another_run_is_found(rt: HostRuntime) -> Result<(), Fail> {
     const CHANGED: Rows = Rows {
-        runs: &[(6, true, ACCEPTED), (8, false, REFUSED)],
+        runs: &[(6, 1, true, ACCEPTED), (8, 1, false, REFUSED)],
         ..SOUND
     };
     let wanted = "runs SITEA 8 has a reply that no run gets\n";
@@ -229,7 +229,7 @@ fn a_reply_of_another_run_is_found(rt: HostRuntime) -> Result<(), Fail> {
 #[test]
 fn a_refusal_of_an_accepted_run_is_found(rt: HostRuntime) -> Result<(), Fail> {
     const CHANGED: Rows = Rows {
-        runs: &[(6, true, ACCEPTED), (7, true, REFUSED)],
+        runs: &[(6, 1, true, ACCEPTED), (7, 1, true, REFUSED)],
         ..SOUND
     };
     let wanted = "runs SITEA 7 has a reply that no run gets\n";
@@ -240,9 +240,9 @@ fn a_refusal_of_an_accepted_run_is_found(rt: HostRuntime) -> Result<(), Fail> {
 fn a_run_that_is_doubled_is_found(rt: HostRuntime) -> Result<(), Fail> {
     const CHANGED: Rows = Rows {
         runs: &[
-            (6, true, ACCEPTED),
-            (7, false, REFUSED),
-            (6, true, ACCEPTED),
+            (6, 1, true, ACCEPTED),
+            (7, 1, false, REFUSED),
+            (6, 1, true, ACCEPTED),
         ],
         ..SOUND
     };
@@ -256,4 +256,34 @@ fn a_mark_that_is_doubled_is_found(rt: HostRuntime) -> Result<(), Fail> {
         ..SOUND
     };
     finds(rt.alloc(), &CHANGED, "settled SITEA has two marks\n")
+}
+
+#[test]
+fn a_mode_that_no_run_has_is_found(rt: HostRuntime) -> Result<(), Fail> {
+    const CHANGED: Rows = Rows {
+        runs: &[(6, 1, true, ACCEPTED), (7, 3, false, REFUSED)],
+        ..SOUND
+    };
+    let wanted = "runs SITEA 7 has a mode that no run has\n";
+    finds(rt.alloc(), &CHANGED, wanted)
+}
+
+/// Three statuses are missing, and one is there 104 times.
+#[test]
+fn a_hundred_findings_are_listed(rt: HostRuntime) -> Result<(), Fail> {
+    const CHANGED: Rows = Rows {
+        states: &[("S.1", true); 104],
+        ..SOUND
+    };
+    let mut wanted = String::from_str(
+        rt.alloc(),
+        "states A.1 (active) is not stored, and the library has it
+states A.2 (active) is not stored, and the library has it
+states B.1 (not active) is not stored, and the library has it
+",
+    )?;
+    for _ in 0..97 {
+        wanted.push_str("states S.1 (active) is stored, and the library does not have it\n")?;
+    }
+    finds(rt.alloc(), &CHANGED, &wanted)
 }

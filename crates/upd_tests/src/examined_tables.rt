@@ -26,8 +26,8 @@ pub struct Rows {
     pub targets: &'static [(&'static str, Target)],
     pub states: &'static [(&'static str, bool)],
     pub counts: &'static [(Target, u32)],
-    /// A number, whether the run was accepted, and its reply.
-    pub runs: &'static [(u64, bool, &'static str)],
+    /// A number, the mode, whether the run was accepted, and its reply.
+    pub runs: &'static [(u64, u32, bool, &'static str)],
     pub marks: &'static [(&'static str, u64)],
 }
 
@@ -61,7 +61,7 @@ pub const SOUND: Rows = Rows {
     targets: &[("S.1", Target::Deck(2))],
     states: &[("A.1", true), ("A.2", true), ("B.1", false), ("S.1", true)],
     counts: &[(Target::Deck(2), 1)],
-    runs: &[(6, true, ACCEPTED), (7, false, REFUSED)],
+    runs: &[(6, 1, true, ACCEPTED), (7, 1, false, REFUSED)],
     marks: &[("SITEA", 5)],
 };
 
@@ -155,20 +155,27 @@ fn add_counts(states: &mut States, rows: &[(Target, u32)]) -> Result<(), Fail> {
     Ok(())
 }
 
-fn run(alloc: Global, number: u64, accepted: bool, reply: &str) -> Result<RunRow, Fail> {
+fn run(
+    alloc: Global,
+    (number, mode, accepted, reply): (u64, u32, bool, &str),
+) -> Result<RunRow, Fail> {
     Ok(RunRow {
         site: String::from_str(alloc, "SITEA")?,
         number,
-        mode: 1,
+        mode,
         bytes: Vec::from_slice(alloc, b"*DECK A\n")?,
         accepted,
         reply: Vec::from_slice(alloc, reply.as_bytes())?,
     })
 }
 
-fn add_runs(alloc: Global, runs: &mut Vec<RunRow>, rows: &[(u64, bool, &str)]) -> Result<(), Fail> {
-    for (number, accepted, reply) in rows {
-        runs.push(run(alloc, *number, *accepted, reply)?)?;
+fn add_runs(
+    alloc: Global,
+    runs: &mut Vec<RunRow>,
+    rows: &[(u64, u32, bool, &str)],
+) -> Result<(), Fail> {
+    for row in rows {
+        runs.push(run(alloc, *row)?)?;
     }
     Ok(())
 }

@@ -37,9 +37,9 @@ const TOO_GREAT: &str =
 fn a_number_above_those_of_runs_is_found(rt: HostRuntime) -> Result<(), Fail> {
     const CHANGED: Rows = Rows {
         runs: &[
-            (6, true, ACCEPTED),
-            (7, false, REFUSED),
-            (1_000_000_000, true, TOO_GREAT),
+            (6, 1, true, ACCEPTED),
+            (7, 1, false, REFUSED),
+            (1_000_000_000, 1, true, TOO_GREAT),
         ],
         ..SOUND
     };

@@ -38,6 +38,8 @@ mod texts_in_parts;
 #[cfg(test)]
 mod texts_read;
 #[cfg(test)]
+mod texts_since;
+#[cfg(test)]
 mod tried_runs;
 #[cfg(test)]
 mod yank_runs;

@@ -1,6 +1,6 @@
 //! Purges, purging back, and names that come again.
 
-use crate::asked_library::{Ask, Asked, DECK_A, check, refused_after};
+use crate::asked_library::{Ask, Asked, DECK_A, check};
 use std::test::Fail;
 
 const REPLACED: &str = "*IDENT X\n*DELETE A.2\nNEW\n";
@@ -51,19 +51,6 @@ fn purging_back_by_the_call(rt: HostRuntime) -> Result<(), Fail> {
         (Ask::Idents, PURGED),
     ];
     check(rt.alloc(), ASKED)
-}
-
-#[test]
-fn purges_that_are_refused(rt: HostRuntime) -> Result<(), Fail> {
-    const REFUSED: &[(&str, &str)] = &[
-        ("*PURGE X.A\n", "RangeOrder (14) at 1"),
-        ("*SELPURGE A.A\n", "DeckCard (15) at 1"),
-        ("*PURGE YANK$$$\n", "Reserved (18) at 1"),
-        ("*PURGE *\n", "BadName (5) at 1"),
-        ("*PURGE X\n*DELETE A.2\n", "NoIdent (8) at 2"),
-    ];
-    let runs = [DECK_A, "*IDENT X\n*INSERT A.2\nNEW\n"];
-    refused_after(rt.alloc(), &runs, REFUSED)?.check(&[(Ask::Active, "A.2 X.1 A.3 A.4")])
 }
 
 #[test]

@@ -1,5 +1,4 @@
 //! Input that is cut, and input that can't be read or answered to its end.
-use crate::http_desk::{QUICK, QUICK_ANSWER, expect};
 use crate::list_desks::{Lists, empty_desk, has_stored};
 use crate::spool_streams::ANSWER_ENDS;
 use std::alloc::Global;
@@ -165,31 +164,6 @@ fn a_request_that_is_cut_or_cannot_be_read_stores_no_run(rt: HostRuntime) -> Res
         is_not_answered(alloc, front, FaultKind::CutFrame)?;
         let failing = Pieces::failing(REQUEST, 1, length.saturating_add(1), ErrorKind::Other);
         is_not_answered(alloc, failing, FaultKind::Read)?;
-    }
-    Ok(())
-}
-
-/// A writer takes this front of the answer.
-fn write_fails(alloc: Global, desk: &mut Lists, front: &[u8]) -> Result<(), Fail> {
-    let mut output = Narrow::new(alloc, front.len());
-    let ended = serve_one(alloc, &mut QUICK.as_bytes(), &mut output, desk);
-    let found = (ended, output.taken.as_slice());
-    let wanted = (Err(FaultKind::Write.without_line()), front);
-    same("the end, the front", found, wanted)
-}
-
-/// A writer takes this front of the answer. The run is stored, and its request, sent again, is answered.
-fn is_stored_unanswered(alloc: Global, desk: &mut Lists, front: &[u8]) -> Result<(), Fail> {
-    write_fails(alloc, desk, front)?;
-    has_stored(alloc, desk, 1)?;
-    expect(alloc, desk, QUICK, QUICK_ANSWER)
-}
-
-#[test]
-fn a_failed_write_leaves_the_run_stored(rt: HostRuntime) -> Result<(), Fail> {
-    for room in 0..QUICK_ANSWER.len() {
-        let front = &QUICK_ANSWER.as_bytes()[..room];
-        is_stored_unanswered(rt.alloc(), &mut empty_desk(rt.alloc()), front)?;
     }
     Ok(())
 }

@@ -1,12 +1,8 @@
-//! Heads and bodies at their limits, and a flush that fails.
-use crate::http_desk::{QUICK, QUICK_ANSWER, expect_all, expect_read};
+//! Bodies at their limits, and lengths.
+use crate::http_desk::{expect_all, expect_read};
 use crate::list_desks::{Lists, empty_desk};
 use std::alloc::Global;
 use std::test::Fail;
-use upd_testkit::check::same;
-use upd_testkit::fake_streams::Held;
-use upd_text::FaultKind;
-use upd_wire::serve_one;
 
 const EMPTY_LISTING: &str =
     "HTTP/1.1 200 OK\r\nContent-Type: text/plain\r\nContent-Length: 0\r\nConnection: close\r\n\r\n";
@@ -31,50 +27,6 @@ fn filler(alloc: Global, count: usize) -> Result<String, Fail> {
         text.push('x')?;
     }
     Ok(text)
-}
-
-/// A request with a head of `bytes` bytes.
-fn long_head(alloc: Global, bytes: usize) -> Result<String, Fail> {
-    let around = "GET /idents HTTP/1.1\r\nX: \r\n\r\n".len();
-    let pad = filler(alloc, bytes.saturating_sub(around))?;
-    Ok(format!(in alloc; "GET /idents HTTP/1.1\r\nX: {pad}\r\n\r\n")?)
-}
-
-/// The answer to a request with a head of `bytes` bytes is this text.
-fn expect_bytes(alloc: Global, desk: &mut Lists, bytes: usize, wanted: &str) -> Result<(), Fail> {
-    let request = long_head(alloc, bytes)?;
-    same("bytes", request.len(), bytes)?;
-    expect(alloc, desk, &request, wanted)
-}
-
-#[test]
-fn heads_have_8192_bytes_at_most(rt: HostRuntime) -> Result<(), Fail> {
-    let mut desk = empty_desk(rt.alloc());
-    expect_bytes(rt.alloc(), &mut desk, 8_192, EMPTY_LISTING)?;
-    expect_bytes(rt.alloc(), &mut desk, 8_193, BAD_FRAME)
-}
-
-/// A request with `count` headers.
-fn many_headers(alloc: Global, count: u32) -> Result<String, Fail> {
-    let mut request = String::from_str(alloc, "GET /yanks HTTP/1.0\r\n")?;
-    for _ in 0..count {
-        request.push_str("A: b\r\n")?;
-    }
-    request.push_str("\r\n")?;
-    Ok(request)
-}
-
-/// The answer to a request with `count` headers is this text.
-fn expect_headers(alloc: Global, desk: &mut Lists, count: u32, wanted: &str) -> Result<(), Fail> {
-    let request = many_headers(alloc, count)?;
-    expect(alloc, desk, &request, wanted)
-}
-
-#[test]
-fn heads_have_32_headers_at_most(rt: HostRuntime) -> Result<(), Fail> {
-    let mut desk = empty_desk(rt.alloc());
-    expect_headers(rt.alloc(), &mut desk, 32, EMPTY_LISTING)?;
-    expect_headers(rt.alloc(), &mut desk, 33, BAD_FRAME)
 }
 
 /// A request with a body of 65,536 bytes, and this length.
@@ -155,33 +107,4 @@ fn lengths_come_once_in_digits(rt: HostRuntime) -> Result<(), Fail> {
     let mut desk = empty_desk(rt.alloc());
     headers_are_answered(rt.alloc(), &mut desk)?;
     expect_all(rt.alloc(), &mut desk, 1000, OTHERS)
-}
-
-/// What comes after the body isn't looked at.
-#[test]
-fn bytes_after_the_body_are_ignored(rt: HostRuntime) -> Result<(), Fail> {
-    let request = format!(in rt.alloc(); "{QUICK}GET /decks/NOPE HTTP/1.1\r\n\r\n")?;
-    expect(
-        rt.alloc(),
-        &mut empty_desk(rt.alloc()),
-        &request,
-        QUICK_ANSWER,
-    )
-}
-
-/// A flush of the answer fails, which is a failed write.
-fn flush_fails(alloc: Global, desk: &mut Lists) -> Result<(), Fail> {
-    let mut output = Held::new(alloc, 1);
-    let ended = serve_one(alloc, &mut QUICK.as_bytes(), &mut output, desk);
-    let found = (ended, output.flushed.as_slice());
-    let wanted = (Err(FaultKind::Write.without_line()), b"".as_slice());
-    same("the end, the answer", found, wanted)
-}
-
-/// A flush that fails is a failed write. The run is stored: its repeat has the reply.
-#[test]
-fn a_failed_flush_leaves_the_run_stored(rt: HostRuntime) -> Result<(), Fail> {
-    let mut desk = empty_desk(rt.alloc());
-    flush_fails(rt.alloc(), &mut desk)?;
-    expect(rt.alloc(), &mut desk, QUICK, QUICK_ANSWER)
 }

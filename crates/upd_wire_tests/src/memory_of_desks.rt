@@ -103,23 +103,6 @@ fn one_run_survives_a_refusal(rt: HostRuntime) -> Result<(), Fail> {
     same("sizes, the first line", found, (4, 388, true))
 }
 
-/// A set is yanked, its yank is yanked, and the second yank is taken back.
-#[test]
-fn yanks_of_yanks_survive_a_refusal(rt: HostRuntime) -> Result<(), Fail> {
-    const LIST: &[Ask<'_>] = &[
-        Ask::Run(1, "full", DECK_A),
-        Ask::Run(2, "full", "*IDENT X\n*DELETE A.2\nNEW\n"),
-        Ask::Run(3, "full", "*IDENT Y\n*YANK X\n"),
-        Ask::Run(4, "full", "*IDENT Z\n*YANK Y\n"),
-        Ask::Compile,
-        Ask::Run(5, "full", "*IDENT W\n*DELETE Z.1\n"),
-        Ask::Run(4, "full", "*IDENT Z\n*YANK Y\n"),
-        Ask::Yanks,
-    ];
-    let wanted = "live Y.1 *YANK X\n set X\ndead Z.1 *YANK Y\n set Y\n";
-    says(rt.alloc(), LIST, wanted)
-}
-
 /// Idents are purged back to one.
 #[test]
 fn purges_survive_a_refusal(rt: HostRuntime) -> Result<(), Fail> {
@@ -136,54 +119,6 @@ fn purges_survive_a_refusal(rt: HostRuntime) -> Result<(), Fail> {
     ];
     let wanted = "1 A deck held\n2 X set purged\n3 B deck purged\n4 Y set purged\n";
     says(rt.alloc(), LIST, wanted)
-}
-
-/// Decks that call a common deck, in normal and in quick mode.
-fn calls(alloc: Global, commons: &str) -> Result<(), Fail> {
-    let list = [
-        Ask::Run(1, "normal", commons),
-        Ask::Run(2, "normal", "*IDENT X\n*INSERT C.2\nMORE\n"),
-        Ask::Run(3, "quick", "*COMPILE B\n"),
-        Ask::Compile,
-        Ask::Idents,
-    ];
-    let wanted = "1 C comdeck held\n2 A deck held\n3 B deck held\n4 X set held\n";
-    says(alloc, &list, wanted)
-}
-
-#[test]
-fn calls_of_a_common_deck_survive_a_refusal(rt: HostRuntime) -> Result<(), Fail> {
-    let commons = "*COMDECK C\nCEE\n*DECK A\n*CALL C\n*DECK B\nBEE\n";
-    calls(rt.alloc(), commons)?;
-    let commons = "*COMDECK C,NOPROP\nCEE\n*DECK A\n*CALL C\n*DECK B\nBEE\n";
-    calls(rt.alloc(), commons)
-}
-
-/// A run that was accepted, with its compile file.
-fn is_compiled(text: &[u8]) -> Result<(), Fail> {
-    let end = b"\"lines\":3,\"mode\":\"full\",\"run\":4,\"site\":\"LYON\",\"state\":\"accepted\"}";
-    let found = (
-        text.starts_with(b"{\"compile\":\"ONE "),
-        text.ends_with(end),
-    );
-    same("the first line, the end", found, (true, true))
-}
-
-const SIX_YANKS: &str = "*IDENT Y1\n*YANK X\n*IDENT Y2\n*YANK Y1\n*IDENT Y3\n*YANK Y2\n\
-*IDENT Y4\n*YANK Y3\n*IDENT Y5\n*YANK Y4\n*IDENT Y6\n*YANK Y5\n";
-
-/// The last of six yanks in a row is taken back: six yank cards and one text are looked at.
-#[test]
-fn six_yanks_in_a_row_survive_a_refusal(rt: HostRuntime) -> Result<(), Fail> {
-    const LIST: &[Ask<'_>] = &[
-        Ask::Run(1, "quick", DECK_A),
-        Ask::Run(2, "quick", "*IDENT X\n*DELETE A.2\n"),
-        Ask::Run(3, "quick", SIX_YANKS),
-        Ask::Run(4, "full", "*IDENT W\n*DELETE Y6.1\n"),
-    ];
-    let answer = ask_all(rt.alloc(), LIST)?;
-    same("the work", answer.work, 7)?;
-    is_compiled(&answer.text?)
 }
 
 /// A run at or below the mark is refused.

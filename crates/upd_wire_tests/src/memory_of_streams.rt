@@ -2,7 +2,6 @@
 use crate::http_desk::REPEATS;
 use crate::list_desks::{are_stored, desk_over};
 use std::alloc::Global;
-use std::io::ErrorKind;
 use std::test::Fail;
 use upd_memory::ListStore;
 use upd_testkit::check::{holds, same};
@@ -15,7 +14,7 @@ use upd_wire::{serve_one, spool};
 fn roomy(alloc: Global) -> Result<Narrow, Fail> {
     const ROOM: usize = 1_000;
     let taken = Vec::with_capacity(alloc, ROOM)?;
-    Ok(Narrow::after(taken, ROOM, Some(ErrorKind::BrokenPipe)))
+    Ok(Narrow::after(taken, ROOM))
 }
 
 /// The spool on a desk over a store: how it ended, and the answers.

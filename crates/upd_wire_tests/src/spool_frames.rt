@@ -12,6 +12,8 @@ const BAD_NUMBER: &str = "{\"at\":0,\"fault\":24,\"name\":\"BadNumber\"}\n";
 
 const BAD_MODE: &str = "{\"at\":0,\"fault\":25,\"name\":\"BadMode\"}\n";
 
+const CHANGED: &str = "{\"at\":0,\"fault\":26,\"name\":\"RunChanged\"}\n";
+
 const NOWHERE: &str = "{\"at\":1,\"fault\":9,\"mode\":\"full\",\"name\":\"TextNowhere\",\"run\":1,\
 \"site\":\"LYON\",\"state\":\"refused\"}\n";
 
@@ -87,11 +89,22 @@ const REFUSED: &[(&str, &str, &str)] = &[
     ("RUN lyon 999999999 full 0\n\n", BAD_SITE, "1"),
     ("RUN LYON 1 FULL 0\n\n", BAD_MODE, "1"),
     ("RUN LYON 1 full 6\nHELLO\n\n", NOWHERE, "1"),
+    ("RUN LYON 1 quick 6\nHELLO\n\n", CHANGED, "1"),
 ];
+
+/// After a settlement, a run that is settled, and one more.
+const AFTER: &[(&str, &str, &str)] = &[(
+    "RUN LYON 1 full 6\nHELLO\n\nRUN LYON 0 full 0\n\n",
+    "{\"at\":0,\"fault\":27,\"name\":\"Settled\"}\n{\"at\":0,\"fault\":24,\"name\":\"BadNumber\"}\n",
+    "2",
+)];
 
 #[test]
 fn refusals_are_answers(rt: HostRuntime) -> Result<(), Fail> {
-    all_come_out(rt.alloc(), &mut empty_desk(rt.alloc()), REFUSED)
+    let mut desk = empty_desk(rt.alloc());
+    all_come_out(rt.alloc(), &mut desk, REFUSED)?;
+    desk.settle_site(rt.alloc(), "LYON", 1)?;
+    all_come_out(rt.alloc(), &mut desk, AFTER)
 }
 
 /// The shortest frame.
