@@ -1,7 +1,7 @@
 #!/usr/bin/env python3
-"""Treats the lasting executable badly: mutated requests, mutated spools, a desk that is killed in the middle of a spool, and very many frames.
+"""Treats the lasting executable badly: mutated requests and spools, kills in the middle of a spool and of a backup, and very many frames.
 
-    python3 bench/campaign.py [--executable FILE] [--seed N] [--requests N] [--spools N] [--kills N] [--frames N]
+    python3 bench/campaign.py [--executable FILE] [--seed N] [--requests N] [--spools N] [--kills N] [--backups N] [--frames N]
 
 Each answer has to be one of those that docs/protocol.md defines, and what was answered has to be there afterwards. The exit status is 1 where it isn't.
 """
@@ -14,6 +14,7 @@ import subprocess
 import sys
 import tempfile
 import threading
+import time
 from pathlib import Path
 
 sys.dont_write_bytecode = True
@@ -84,20 +85,52 @@ def judged(answer):
     return status, status in STATUSES and length == len(body) and (b"text/plain" in head or is_answer(body))
 
 
+def field(word):
+    """A field of the log of connections."""
+    return "".join(chr(byte) if 0x20 < byte < 0x7F else f"%{byte:02X}" for byte in word)[:200] or "-"
+
+
+def outcome(status, got):
+    """What the log says of an answer."""
+    body = got.partition(b"\r\n\r\n")[2]
+    if status == 200:
+        return "accepted" if body.endswith(b'"state":"accepted"}') else "ok"
+    return json.loads(body)["name"]
+
+
+def is_logged(line, sent, got):
+    """Whether a line of the log says of a request what it asked and what it got."""
+    _, method, target, site, number, status, what, read, written, _ = line.split(" ")
+    right = int(written) == len(got) and int(read) <= len(sent)
+    if not got:
+        return right and status == "-" and what in FAULTS.values()
+    right = right and int(status) == judged(got)[0] and what == outcome(int(status), got)
+    if int(status) in (400, 413):
+        return right
+    words = sent.split(b" ")[:2]
+    asked = re.fullmatch(r"/sites/([A-Z0-9]+)/(?:runs/([0-9]+)/\w+|settled/([0-9]+))", target)
+    named = (asked[1], asked[2] or asked[3]) if asked and method == "POST" and int(status) in (200, 409, 410, 422) else (site, number)
+    return right and (method.lower(), target.lower()) == tuple(field(word).lower() for word in words) and (site, number) == named
+
+
 def try_requests(upd, folder, dice, count):
     file = folder / "requests.db"
     subprocess.run([upd, "init", file], check=True)
-    found, bad = {}, 0
-    with Server(upd, file, count):
+    found, bad, all_sent = {}, 0, []
+    with Server(upd, file, count) as server:
         for _ in range(count):
             sent, whole = request(dice)
             got = exchange(sent)
+            all_sent.append((sent, got))
             status, right = judged(got) if got else ("none", not whole)
             found[status] = found.get(status, 0) + 1
             if not right:
                 bad += 1
                 print("BAD", sent, got)
-    print(f"{count} mutated requests: {dict(sorted(found.items(), key=str))}")
+    lines = [line for line in server.log.read_text().splitlines() if " listening " not in line]
+    untold = [said for said in zip(lines, all_sent, strict=True) if not is_logged(said[0], *said[1])]
+    bad += len(untold)
+    print(f"{count} mutated requests: {dict(sorted(found.items(), key=str))}, {len(untold)} of them logged wrongly", *untold[:3])
     if count >= 50 and 200 not in found:
         bad += 1
         print("BAD no request was answered with 200")
@@ -174,6 +207,32 @@ def try_kills(upd, folder, dice, count):
     return bad + sound(upd, file)
 
 
+def try_backups(upd, folder, dice, count):
+    """Kills `upd backup` while it copies a library of 20 MB. COPY isn't there, or it is a whole library; COPY.part is no library's name."""
+    file, copy = folder / "copied.db", folder / "copy.db"
+    subprocess.run([upd, "init", file], check=True)
+    decks = [b"*DECK D%d\n" % n + b"%s\n" % (b"X" * 60) * 1000 for n in range(1, 46)]
+    text = b"".join(b"RUN LYON %d quick %d\n%s\n" % (n, len(deck), deck) for n, deck in enumerate(decks, 1))
+    subprocess.run([upd, "spool", file], input=text, stdout=subprocess.DEVNULL, check=True)
+    wanted = subprocess.run([upd, "idents", file], capture_output=True, check=True).stdout
+    begun = time.monotonic()
+    subprocess.run([upd, "backup", file, copy], check=True)
+    whole, found, bad = time.monotonic() - begun, {"none": 0, "whole": 0}, 0
+    for _ in range(count):
+        for old in folder.glob("copy.db*"):
+            old.unlink()
+        process = subprocess.Popen([upd, "backup", file, copy])
+        time.sleep(dice.uniform(0.3, 1.1) * whole)
+        process.kill()
+        process.wait()
+        found["whole" if copy.exists() else "none"] += 1
+        if copy.exists():
+            listed = subprocess.run([upd, "idents", copy], capture_output=True, check=False).stdout
+            bad += listed != wanted or sound(upd, copy)
+    print(f"{count} backups killed in {whole:.1f} s each: {found}, {bad} of them cut")
+    return bad + sound(upd, file)
+
+
 MOST_FRAMES = 100_000
 REPLY = b'{"compile":"","idents":[],"lines":0,"mode":"quick","run":%d,"site":"LYON","state":"accepted"}\n'
 
@@ -236,7 +295,7 @@ def main():
     words = argparse.ArgumentParser(description=__doc__.splitlines()[0])
     add_executable(words)
     words.add_argument("--seed", metavar="N", type=int, default=1, help="what the dice are thrown from (default: 1)")
-    for name, count, what in [("requests", 10_000, "mutated requests"), ("spools", 10_000, "mutated spools"), ("kills", 200, "desks that are killed"),
+    for name, count, what in [("requests", 10_000, "mutated requests"), ("spools", 10_000, "mutated spools"), ("kills", 200, "desks that are killed"), ("backups", 60, "backups that are killed"),
                               ("frames", 1_000_000, "frames, which arrive once without settlements and once with them")]:
         words.add_argument(f"--{name}", metavar="N", type=int, default=count, help=f"{what} (default: {count:,})")
     words = words.parse_args()
@@ -248,6 +307,7 @@ def main():
         bad = try_requests(upd, folder, dice, words.requests) if words.requests else 0
         bad += try_spools(upd, folder, dice, words.spools) if words.spools else 0
         bad += try_kills(upd, folder, dice, words.kills) if words.kills else 0
+        bad += try_backups(upd, folder, dice, words.backups) if words.backups else 0
         for settles in (False, True) if words.frames else ():
             bad += try_frames(upd, folder, dice, words.frames, settles)
     bad += wire.bad     # servers that didn't end as they should
