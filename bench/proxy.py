@@ -150,12 +150,18 @@ def try_table(proxy):
 
 
 def try_slow(proxy):
-    slow = [proxy.connection() for _ in range(10)] + [socket.create_connection(("127.0.0.1", proxy.port)) for _ in range(20)]
-    for at, client in enumerate(slow[:10]):
-        client.sendall(b"POST /sites/LYON/runs/9/quick HTTP/1.1\r\nContent-Length: 100\r\n\r\nONE"[:4 + 7 * at])
-    start = time.monotonic()
-    check("a question beside 30 clients that say nothing or stop", proxy.asked("GET", "/idents")[0], 200)
-    check("and in less than 2 seconds", time.monotonic() - start < 2, True)
+    """Clients that say nothing, send half a head or half a body and then a byte at a time, or don't read their answer: the next isn't held up."""
+    head = f" /sites/LYON/runs/9/quick HTTP/1.1\r\nHost: {NAME}\r\n{LYON}\r\nContent-Length: 100\r\n\r\n".encode()
+    whole = f"GET /idents HTTP/1.1\r\nHost: {NAME}\r\n{LYON}\r\n\r\n".encode()
+    slow = [proxy.connection() for _ in range(16)] + [socket.create_connection(("127.0.0.1", proxy.port)) for _ in range(14)]
+    for at, client in enumerate(slow[:16]):
+        client.sendall([b"", b"GET /ide", b"POST" + head + b"ONE", whole][at % 4])
+    for byte in b"nts":
+        for client in slow[1:16:4] + slow[2:16:4]:
+            client.sendall(bytes([byte]))
+        start = time.monotonic()
+        check("a question beside 30 slow clients", proxy.asked("GET", "/idents")[0], 200)
+        check("and in less than 2 seconds", time.monotonic() - start < 2, True)
     for client in slow:
         client.close()
 

@@ -238,6 +238,26 @@ fn mistakes_are_reported_on_the_fault_stream(rt: HostRuntime) -> Result<(), Fail
     complains(&rt, &[], front)
 }
 
+/// What a command of git gets beside the mistake.
+const HINTS: &[(&str, &str)] = &[
+    ("commit", "\nhint: `upd run` "),
+    ("diff", "\nhint: `upd correct FILE SET` "),
+    ("log", "\nhint: `upd idents FILE` "),
+    ("status", "\nhint: `upd sites FILE` "),
+    ("yank", "\nhint: `*YANK SET` "),
+];
+
+#[test]
+fn commands_of_git_get_a_hint(rt: HostRuntime) -> Result<(), Fail> {
+    for (word, hint) in HINTS {
+        complains(&rt, &[*word], "error: unrecognized subcommand '")?;
+        let found = run_words(&rt, &[*word, "--all"], b"")?;
+        let text = std::str::from_utf8(&found.faults)?;
+        same(*word, (found.status, text.contains(*hint)), (2, true))?;
+    }
+    Ok(())
+}
+
 /// An error of the words has this status and this line.
 fn is_reported(faults: &mut Vec<u8>, kind: ErrorKind, status: u8, line: &str) -> Result<(), Fail> {
     faults.clear();

@@ -276,20 +276,28 @@ fn is_explained(rt: &HostRuntime, word: &str, start: &str) -> Result<(), Fail> {
     same(word, (found.status, begins), (0, true))
 }
 
-/// What names no fault is answered so.
+/// What names no fault is answered by BadName, and a line for each fault.
 fn is_not_explained(rt: &HostRuntime, word: &str) -> Result<(), Fail> {
-    answers(
-        rt,
-        &["explain", word],
-        "",
-        (1, "", "upd: BadName (5) at 0\n"),
+    let found = ask(rt, &["explain", word], &mut b"".as_slice())?;
+    let faults = std::str::from_utf8(&found.faults)?;
+    let begins = faults.starts_with("upd: BadName (5) at 0\n1 RunLong\n2 TooManyLines\n");
+    let ends = faults.ends_with("\n32 Read\n33 Write\n");
+    let count = found.faults.iter().filter(|b| **b == b'\n').count();
+    let silent = found.output.is_empty();
+    same(
+        word,
+        (found.status, silent, begins, ends, count),
+        (1, true, true, true, 34),
     )
 }
 
 #[test]
 fn a_fault_is_explained(rt: HostRuntime) -> Result<(), Fail> {
-    is_explained(&rt, "Settled", "Settled (27): ")?;
-    is_explained(&rt, "27", "Settled (27): ")?;
-    is_not_explained(&rt, "settled")?;
-    is_not_explained(&rt, "34")
+    for word in ["Settled", "settled", "SETTLED", "27"] {
+        is_explained(&rt, word, "Settled (27): ")?;
+    }
+    for word in ["settle", "34", "027", ""] {
+        is_not_explained(&rt, word)?;
+    }
+    Ok(())
 }

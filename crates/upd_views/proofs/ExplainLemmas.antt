@@ -5,7 +5,8 @@ use Rattle.std.specs.Fmt.{digits}
 use Rattle.std.specs.Option.{option_map}
 use Rattle.std.specs.List.{find}
 use Rattle.upd_views.specs.Escaped.{begins}
-use Rattle.upd_views.specs.FaultTexts.{IsCalled, explained, fault_text, faults, has_three_lines, is_called}
+use Rattle.upd_views.specs.FaultTexts.{IsCalled, explained, fault_list, fault_text, faults, has_three_lines, is_called}
+use Rattle.upd_views.specs.declared.fault_texts.TheConstants.{FAULT_LIST}
 use Rattle.upd_text.specs.Faults.{fault_name, fault_number}
 use Rattle.upd_text.specs.declared.fault.FaultKind.{FaultKind}
 use Rattle.upd_text.specs.declared.fault.FaultKind.TheVariants.{RunLong, TooManyLines, BadByte, LineLong, BadName, BadCard, BadField, NoIdent, TextNowhere}
@@ -77,3 +78,8 @@ found word (kind ∷ kinds) is =
 
 pub only : (word : List ℕ) → IsSome (explained word) → IsCalled word
 only word is = found word faults is
+
+-- each fault has its line
+pub all_listed : FAULT_LIST.now ≡ fault_list
+unfolding digits
+all_listed = refl

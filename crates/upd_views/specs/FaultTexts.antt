@@ -1,8 +1,8 @@
 -- What a fault means, by its name or its number.
-use Rattle.std.specs.Prelude.{Bool, false, ◌-◌, ◌==◌, ◌&&◌, ◌||◌, List, [], ◌∷◌, IsTrue, Option, codes, decimal, slice_get, unwrap_or}
+use Rattle.std.specs.Prelude.{Bool, false, ◌-◌, ◌==◌, ◌&&◌, ◌||◌, ◌++◌, List, [], ◌∷◌, IsTrue, Option, codes, decimal, slice_get, unwrap_or}
 use Rattle.std.specs.Option.{option_map}
-use Rattle.std.specs.List.{find, slice_split}
-use Rattle.std.specs.Str.{bytes_eq}
+use Rattle.std.specs.List.{find, flat_map, slice_split}
+use Rattle.std.specs.Str.{bytes_eq, str_eq_ignore_ascii_case}
 use Rattle.upd_views.specs.Escaped.{begins}
 use Rattle.upd_views.specs.declared.fault_texts.TheConstants.{FAULT_TEXTS}
 use Rattle.upd_text.specs.Faults.{fault_name, fault_number}
@@ -20,9 +20,9 @@ faults =
     CardUnknown ∷ RangeOrder ∷ DeckCard ∷ YankText ∷ YankSelf ∷ Reserved ∷ Full ∷ CallUnknown ∷ CallDepth ∷ CompileLong ∷ BadSite ∷ BadNumber ∷
     BadMode ∷ RunChanged ∷ Settled ∷ NoMemory ∷ Store ∷ BadFrame ∷ CutFrame ∷ Read ∷ Write ∷ []
 
--- whether a word is a fault's name, or its number in digits
+-- whether a word is a fault's name, in letters of any case, or its number in digits
 abbrev pub is_called : Bytes → FaultKind → Bool
-is_called word kind = bytes_eq word (fault_name kind) || bytes_eq word (decimal (fault_number kind))
+is_called word kind = str_eq_ignore_ascii_case word (fault_name kind) || bytes_eq word (decimal (fault_number kind))
 
 -- a word is the name or the number of a fault
 abbrev pub IsCalled : Bytes → Type 0
@@ -44,3 +44,7 @@ has_three_lines text = are_three (slice_split (λ b. b == 10) text)
 -- the text of the fault whose name or number is a word
 abbrev pub explained : Bytes → Option Bytes
 explained word = option_map fault_text (find (is_called word) faults)
+
+-- a line for each fault, in order of number: the number and the name
+abbrev pub fault_list : Bytes
+fault_list = flat_map (λ kind. decimal (fault_number kind) ++ 32 ∷ fault_name kind ++ 10 ∷ []) faults

@@ -4,14 +4,15 @@ ghost use Rattle.std.specs.Prelude.{◌≡◌, ◌++◌, List, ℕ, true, codes,
 ghost use Rattle.std.specs.List.{find};
 ghost use Rattle.std.specs.Option.{option_map};
 ghost use Rattle.upd_views.specs.Escaped.{begins};
-ghost use Rattle.upd_views.specs.FaultTexts.{IsCalled, explained, fault_text, has_three_lines, is_called};
+ghost use Rattle.upd_views.specs.FaultTexts.{IsCalled, explained, fault_list, fault_text, has_three_lines, is_called};
 ghost use Rattle.upd_text.specs.Faults.{fault_name, fault_number};
 ghost use Rattle.upd_text.specs.declared.fault.FaultKind.{FaultKind};
 
 use itoa::Buffer;
 use upd_text::FaultKind;
 
-/// The text of the fault whose name, or whose number in digits, is this word. None where no fault has it.
+/// The text of the fault whose name, in letters of any case, or whose number in digits, is this word. None where no fault
+/// has it.
 ///
 /// It has three lines, each with LF: the name with the number and the meaning, where the fault comes from, and what to
 /// do.
@@ -34,11 +35,19 @@ fn first_called(word: &[u8], kinds: &[FaultKind]) -> Option<FaultKind>
     None
 }
 
-/// Whether a word is a fault's name, or its number in digits.
+/// Whether a word is a fault's name, in letters of any case, or its number in digits.
 fn is_called(word: &[u8], kind: FaultKind) -> bool
     ensures { result ≡ is_called word.now kind }
 {
-    word == kind.name().as_bytes() || word == Buffer::new().format(kind.number()).as_bytes()
+    word.eq_ignore_ascii_case(kind.name().as_bytes())
+        || word == Buffer::new().format(kind.number()).as_bytes()
+}
+
+/// A line for each fault, in order of number: the number and the name.
+pub fn fault_list() -> &'static str
+    ensures { result.now ≡ fault_list }
+{
+    FAULT_LIST
 }
 
 #[tactic(auto, using(crate::proofs::ExplainLemmas::from_one, crate::proofs::ExplainLemmas::to_last))]
@@ -58,6 +67,15 @@ pub fn each_fault_has_one_text()
     ensures lines { (kind : FaultKind) → has_three_lines (fault_text kind) ≡ true }
     ensures only { (word : List ℕ) → IsSome (explained word) → IsCalled word }
 {}
+
+/// What `fault_list` returns.
+const FAULT_LIST: &str = "\
+1 RunLong\n2 TooManyLines\n3 BadByte\n4 LineLong\n5 BadName\n6 BadCard\n7 BadField\n\
+8 NoIdent\n9 TextNowhere\n10 NameTaken\n11 IdentUnknown\n12 DeckUnknown\n\
+13 CardUnknown\n14 RangeOrder\n15 DeckCard\n16 YankText\n17 YankSelf\n18 Reserved\n\
+19 Full\n20 CallUnknown\n21 CallDepth\n22 CompileLong\n23 BadSite\n24 BadNumber\n\
+25 BadMode\n26 RunChanged\n27 Settled\n28 NoMemory\n29 Store\n30 BadFrame\n31 CutFrame\n\
+32 Read\n33 Write\n";
 
 /// The faults, in order of number.
 const FAULTS: [FaultKind; 33] = [

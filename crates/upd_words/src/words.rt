@@ -93,7 +93,7 @@ pub fn read_words<'a, S: AsStr>(alloc: Global, words: &'a [S]) -> Result<Request
 {
     match program(alloc)?.try_get_matches_from(words) {
         Ok(matches) => read_request(&matches),
-        Err(error) => unread_request(alloc, &error),
+        Err(error) => unread_request(alloc, words, &error),
     }
 }
 
@@ -210,19 +210,43 @@ fn read_desk_command<'a>(name: &str, operands: &ArgMatches<'a>) -> Result<Comman
     }
 }
 
-/// What clap says where the words are not read or ask for a text.
-fn unread_request<'a>(alloc: Global, error: &Error) -> Result<Request<'a>, Fault>
+/// What clap says where the words are not read or ask for a text; a word of git has a hint behind it.
+fn unread_request<'a, S: AsStr>(
+    alloc: Global,
+    words: &[S],
+    error: &Error,
+) -> Result<Request<'a>, Fault>
     ensures ok { IfOk result (λ request. (kind_of error.now ≢ OutOfMemory) × IsUnreadRequest (kind_of error.now) request) }
     ensures err { IfErr result (λ fault. fault ≡ no_memory) }
 {
     if error.kind() == ErrorKind::OutOfMemory {
         return Err(Fault::from(AllocError));
     }
-    let text = error.to_string(alloc)?;
+    let mut text = error.to_string(alloc)?;
     if error.use_stderr() {
+        if words.len() > 1 {
+            text.push_str(hint_for(words[1].as_str()))?;
+        }
         Ok(Request::Unread(text))
     } else {
         Ok(Request::Shown(text))
+    }
+}
+
+/// What stands for a command of git here; nothing for another word.
+fn hint_for(command: &str) -> &'static str {
+    match command {
+        "commit" =>
+            "\nhint: `upd run` hands a run in, and `upd-edit FILE SITE DECK` edits a deck\n",
+        "diff" =>
+            "\nhint: `upd correct FILE SET` makes the run that corrects decks to an edited text\n",
+        "log" =>
+            "\nhint: `upd idents FILE` lists the sets by age, and `upd runs FILE` the stored runs\n",
+        "status" =>
+            "\nhint: `upd sites FILE` lists the sites, and `upd examine FILE` checks the file\n",
+        "yank" =>
+            "\nhint: `*YANK SET` is a line of a run; `upd try FILE normal` shows what a run does\n",
+        _ => "",
     }
 }
 

@@ -1,4 +1,4 @@
-use Rattle.std.proofs.Common.{◌≡◌, Bool, true, false, if◌then◌else◌, None, refl, sym, rules}
+use Rattle.std.proofs.Common.{◌≡◌, true, false, if◌then◌else◌, None, refl, sym, rules}
 use Rattle.std.specs.Str.{is_utf8}
 use Rattle.std.proofs.lemmas.Str.{IsUtf8-from_is_utf8, is_utf8-from_IsUtf8}
 use Rattle.serde_json.specs.Errors.{IsMemory}
