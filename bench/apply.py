@@ -1,5 +1,5 @@
 #!/usr/bin/env python3
-"""Measures libraries at their limits: the processor time of tests of crates/upd_tests and crates/upd_desk_tests.
+"""Measures libraries at their limits: the processor time of tests of crates/upd_tests and crates/upd_store_tests.
 
     python3 bench/apply.py [--times N]
 
@@ -22,9 +22,9 @@ TESTS = {
     ("upd_tests", "library_limits::holds_100000_targets"): "4,000 idents and 100,000 targets on 25 yank cards, refused once and accepted once",
     ("upd_tests", "library_limits::introduces_65536_idents"): "65,536 idents, 4,096 at a time",
     ("upd_tests", "library_limits::follows_4000_common_decks_in_one_chain"): "4,000 common decks in one chain, and the choice of a normal compile file",
-    ("upd_desk_tests", "changes_of_runs::holds_48000_cards"): "48,000 cards in 24 runs, with their row changes",
-    ("upd_desk_tests", "changes_of_runs::takes_1998_texts_at_one_place_of_48000_cards"): "the same, and a run of 1,998 texts at one place",
-    ("upd_desk_tests", "changes_of_runs::purges_40000_of_48000_cards"): "the same, and a purge of 40,000 cards",
+    ("upd_store_tests", "changes_of_runs::holds_48000_cards"): "48,000 cards in 24 runs, with their row changes",
+    ("upd_store_tests", "changes_of_runs::takes_1998_texts_at_one_place_of_48000_cards"): "the same, and a run of 1,998 texts at one place",
+    ("upd_store_tests", "changes_of_runs::purges_40000_of_48000_cards"): "the same, and a purge of 40,000 cards",
 }
 
 # A run takes the time of its test, less that of the test without it. Budgets are seconds of processor time.

@@ -1,6 +1,8 @@
-//! Tests of libraries in SQLite: rows that another connection reads again, a crash at each call of the disk, files of the older
-//! schemas, and random lists whose tables are compared row by row. Those of `surface_desk` and `surface_wire` make each
-//! public call of stores, the desk and its wire once, by its path.
+//! Tests of the desk and of its stores. Over lists and over SQLite: worked lists of runs, random lists beside the reference
+//! desk, the decks that it reads, row changes, status updates at the limits of a library, commits that fail, and a store
+//! with its rows in memory beside the plain one. In SQLite: rows that another connection reads again, a crash at each call
+//! of the disk, files of the older schemas, and random lists whose tables are compared row by row. Those of `surface_desk`
+//! and `surface_wire` make each public call of stores, the desk and its wire once, by its path.
 //!
 //! Expected values are worked by hand from `docs/rules.md` and `docs/protocol.md`, or come from the reference desk.
 #![tactic(auto)]
@@ -8,9 +10,17 @@
 #[cfg(test)]
 mod against_reference;
 #[cfg(test)]
+mod changes_of_runs;
+#[cfg(test)]
 mod committing;
 #[cfg(test)]
+mod decks_read;
+#[cfg(test)]
 mod desk_crashes;
+#[cfg(test)]
+mod empty_stores;
+#[cfg(test)]
+mod failed_commits;
 #[cfg(test)]
 mod fused_files;
 #[cfg(test)]
@@ -18,14 +28,28 @@ mod migrated;
 #[cfg(test)]
 mod migration_crashes;
 #[cfg(test)]
+mod mirrored_runs;
+#[cfg(test)]
 mod older_files;
 #[cfg(test)]
+mod random_arrivals;
+#[cfg(test)]
+mod refused_directives;
+#[cfg(test)]
 mod sqlite_rows;
+#[cfg(test)]
+mod status_updates;
+#[cfg(test)]
+mod steps;
+#[cfg(test)]
+mod store_answers;
 #[cfg(test)]
 mod stored;
 #[cfg(test)]
 mod surface_desk;
 #[cfg(test)]
 mod surface_wire;
+#[cfg(test)]
+mod worked_lists;
 #[cfg(test)]
 mod written_store;

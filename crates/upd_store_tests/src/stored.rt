@@ -153,3 +153,12 @@ fn a_database_without_a_version_is_refused(rt: HostRuntime) -> Result<(), Fail> 
     is_refused(alloc, SqlStore::init(conn), "Store (29) at 0")?;
     Ok(())
 }
+
+#[test]
+fn a_database_with_a_further_table_is_refused(rt: HostRuntime) -> Result<(), Fail> {
+    let alloc = rt.alloc();
+    let mut conn = made(alloc)?.into_connection();
+    conn.execute("CREATE TABLE other (k INTEGER PRIMARY KEY) STRICT", &[])?;
+    is_refused(alloc, SqlStore::adopt(conn), "Store (29) at 3")?;
+    Ok(())
+}

@@ -1,5 +1,6 @@
 //! Empty libraries in memory.
-use sqlite::{Connection, MemStore};
+use crate::stored::made;
+use sqlite::MemStore;
 use std::alloc::Global;
 use std::test::Fail;
 use upd_memory::ListStore;
@@ -21,10 +22,7 @@ impl Fresh for ListStore {
 
 impl Fresh for SqlStore<MemStore> {
     fn fresh(alloc: Global) -> Result<SqlStore<MemStore>, Fail> {
-        match SqlStore::init(Connection::open_in_memory(alloc)?) {
-            Ok(store) => Ok(store),
-            Err((fault, _)) => Err(fault.into()),
-        }
+        made(alloc)
     }
 }
 

@@ -2,7 +2,7 @@ use Rattle.std.proofs.Common.{ap, sym}
 use Rattle.upd_text.specs.declared.fault.Fault.{Fault}
 use Rattle.upd_row_store.proofs.KeepingLemmas.{memory_is_lost}
 use Rattle.upd_row_store.specs.Keeping.{failures_with}
-use Rattle.upd_desk_tests.proofs.failed_commits.no_memory.Goals as goal
+use Rattle.upd_store_tests.proofs.failed_commits.no_memory.Goals as goal
 
 pub returns-clause-lost : goal.returns-clause-lost
 returns-clause-lost c = memory_is_lost _ c.without_line.ensures

@@ -45,19 +45,20 @@ fn reads<S: RowStore + Drop>(
 fn random_read<S: RowStore + Drop>(
     session: Session<S>,
     dice: &mut Dice,
+    list: u32,
 ) -> Result<Session<S>, Fail> {
     let mut session = session;
-    random_arrival(&mut session, dice)?;
+    random_arrival(&mut session, dice, list)?;
     let (session, read) = counted(session);
     same("decks read", read, session.reference.needed)?;
     Ok(session)
 }
 
 /// Arrivals at random: the number of decks that were read.
-fn random_reads(alloc: Global, dice: &mut Dice) -> Result<u64, Fail> {
-    let mut session = after_decks(alloc)?;
+fn random_reads(alloc: Global, dice: &mut Dice, list: u32) -> Result<u64, Fail> {
+    let mut session = after_decks(alloc, ListStore::new(alloc))?;
     for _ in 0..30 {
-        session = random_read(session, dice)?;
+        session = random_read(session, dice, list)?;
     }
     Ok(counted(session).1)
 }
@@ -66,8 +67,8 @@ fn random_reads(alloc: Global, dice: &mut Dice) -> Result<u64, Fail> {
 fn reads_the_decks_that_random_runs_need(rt: HostRuntime) -> Result<(), Fail> {
     let mut dice = Dice(1974);
     let mut read: u64 = 0;
-    for _ in 0..60 {
-        read = read.saturating_add(random_reads(rt.alloc(), &mut dice)?);
+    for list in 0..60 {
+        read = read.saturating_add(random_reads(rt.alloc(), &mut dice, list)?);
     }
     holds(("decks read", read), read > 1_000)
 }
