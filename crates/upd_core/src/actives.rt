@@ -40,11 +40,21 @@ impl Model for ActiveDeck {
 }
 
 /// A directory and the active cards of its decks: the input of a compile file.
-#[derive(Debug, Drop)]
+#[derive(Debug)]
 pub struct Actives {
     pub idents: Vec<Ident>,
     /// All decks other than `YANK$$$`, in order of serial, those with no active card included.
     pub decks: Vec<ActiveDeck>,
+}
+
+// Written by hand, so that a caller does not prove again how each deck is dropped.
+impl Drop for Actives {
+    fn drop(self) {
+        let Actives {
+            idents: _,
+            decks: _,
+        } = self;
+    }
 }
 
 impl Model for Actives {

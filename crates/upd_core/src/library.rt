@@ -36,7 +36,7 @@ pub struct Rest {
 }
 
 /// A program library.
-#[derive(Debug, Drop)]
+#[derive(Debug)]
 pub struct Library {
     pub(crate) idents: Vec<Ident>,
     pub(crate) decks: Decks,
@@ -44,6 +44,19 @@ pub struct Library {
     pub(crate) rest: Rest,
     /// Its sizes, updated by each edit.
     pub(crate) counts: Counts,
+}
+
+// Written by hand, so that a caller does not prove again how each part is dropped.
+impl Drop for Library {
+    fn drop(self) {
+        let Library {
+            idents: _,
+            decks: _,
+            yanks: _,
+            rest: _,
+            counts: _,
+        } = self;
+    }
 }
 
 impl Model for Library {
