@@ -29,7 +29,7 @@ use upd_row_store::{
 };
 
 /// The tables as lists.
-#[derive(Debug, Drop)]
+#[derive(Debug)]
 pub struct ListTables {
     pub(crate) idents: Vec<Ident>,
     pub(crate) cards: Vec<CardRow>,
@@ -39,6 +39,22 @@ pub struct ListTables {
     pub(crate) states: Vec<StateRow>,
     pub(crate) counts: Vec<CountRow>,
     pub(crate) settled: Vec<MarkRow>,
+}
+
+// Written by hand, so that a caller does not prove again how each table is dropped.
+impl Drop for ListTables {
+    fn drop(self) {
+        let ListTables {
+            idents: _,
+            cards: _,
+            entries: _,
+            targets: _,
+            runs: _,
+            states: _,
+            counts: _,
+            settled: _,
+        } = self;
+    }
 }
 
 impl Model for ListTables {

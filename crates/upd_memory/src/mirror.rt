@@ -20,7 +20,6 @@ use upd_core::{CardRef, Change, Entry, Ident, Serial, Target};
 use upd_records::{CardRow, EntryRow, TargetRow, drop_targets, purge_ident};
 
 /// The rows of idents, cards, entries and targets, the statuses and the counts.
-#[derive(Drop)]
 pub struct Mirror {
     pub(crate) idents: Vec<Ident>,
     /// The rows of the cards of each deck, in no promised order.
@@ -32,6 +31,22 @@ pub struct Mirror {
     pub(crate) targets: Vec<TargetRow>,
     pub(crate) statuses: BTreeMap<CardRef, bool>,
     pub(crate) counts: Vec<(Target, u32)>,
+}
+
+// Written by hand, so that a caller does not prove again how each part is dropped.
+impl Drop for Mirror {
+    fn drop(self) {
+        let Mirror {
+            idents: _,
+            decks: _,
+            homes: _,
+            entries: _,
+            entry_count: _,
+            targets: _,
+            statuses: _,
+            counts: _,
+        } = self;
+    }
 }
 
 impl Mirror {
