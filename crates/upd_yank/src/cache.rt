@@ -28,12 +28,23 @@ use upd_apply::Applied;
 use upd_core::{Actives, CardRef, Change, Counted, Fault, Library, States, Target, TargetCounts};
 
 /// Statuses of cards and counts of targets: those of a whole library, or of the cards that were loaded for a run.
-#[derive(Drop)]
 pub struct Cache {
     alloc: Global,
     statuses: Statuses,
     counts: TargetCounts,
     work: u64,
+}
+
+// Written by hand, so that a caller does not prove again how each part is dropped.
+impl Drop for Cache {
+    fn drop(self) {
+        let Cache {
+            alloc: _,
+            statuses: _,
+            counts: _,
+            work: _,
+        } = self;
+    }
 }
 
 impl Model for Cache {
