@@ -14,6 +14,7 @@ use Rattle.upd_row_store.specs.declared.meaning.Meaning.{Ghosts}
 use Rattle.upd_wire.specs.Fronts.{AppendsFront}
 use Rattle.upd_wire.specs.Inputs.{IsInput}
 use Rattle.upd_keep.specs.Examining.{ExaminesFile}
+use Rattle.upd_keep.specs.Situations.{words_of}
 use Rattle.upd_keep.specs.declared.file_examination.Examined.TheVariants as examined
 use Rattle.upd_keep.specs.declared.file_examination.Report.{Report}
 use Rattle.upd_keep.specs.declared.file_examination.Report.TheVariants as report
@@ -52,7 +53,7 @@ WritesReport (report.Library (examined.Sound line) log) end =
 WritesReport (report.Library (examined.Unsound lines) log) end =
     Appends end.output end.output' [] × IsReported 1 (log_line log ++ lines.items) end.status end.faults end.faults'
 WritesReport (report.Other situation) end =
-    Appends end.output end.output' [] × ((words : List ℕ) × IsReported 3 (situation_line words) end.status end.faults end.faults')
+    Appends end.output end.output' [] × IsReported 3 (situation_line (words_of situation)) end.status end.faults end.faults'
 
 -- what is at a path is reported; or that failed, and its fault is reported
 abbrev pub EndsReport : Result Report Fault → Ending → Type 0

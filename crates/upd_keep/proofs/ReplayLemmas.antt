@@ -16,7 +16,7 @@ use Rattle.upd_core.specs.declared.states.States.{States}
 use Rattle.upd_core.proofs.CountedLemmas.{same_target, target_same}
 use Rattle.upd_records.specs.Rows.{CountRow, RunView, Shows, ShowsStates, StateRow, count_rows, same_ref, state_rows}
 use Rattle.upd_records.specs.declared.rows.LibraryRows.{LibraryRows}
-use Rattle.upd_records.proofs.CountLemmas.{count_map, same_filter, same_trans}
+use Rattle.upd_records.proofs.CountLemmas.{same_filter, same_trans}
 use Rattle.upd_records.proofs.EqualLemmas.{same_ref_is, same_ref_own}
 use Rattle.upd_row_store.specs.declared.meaning.Meaning.{Ghosts}
 use Rattle.upd_row_store.specs.Assembling.{AreRowsOf}
@@ -24,7 +24,6 @@ use Rattle.upd_row_store.specs.Keeping.{IsLater}
 use Rattle.upd_row_store.specs.Tables.{AreRead, count_pair, state_pair}
 use Rattle.upd_desk.specs.Holding.{EachHeld, Holds, IsHeld, IsOwed}
 use Rattle.upd_desk.specs.Journal.{Journal, answer}
-use Rattle.upd_desk.specs.Outcomes.{ReplyView}
 use Rattle.upd_keep.specs.Replaying.{HasReply, HaveReplies}
 
 -- ---- runs, one after the other

@@ -1,14 +1,12 @@
 -- What is said of a file that is examined.
-use Rattle.std.specs.Prelude.{◌≡◌, ◌⊎◌, ℕ, List, [], ◌∷◌, Bool, true, false, ◌&&◌, codes, decimal, length, Result, Ok, Err, IfErr, IfOk, IsTrue}
+use Rattle.std.specs.Prelude.{◌≡◌, ◌⊎◌, ℕ, List, [], ◌∷◌, Bool, ◌&&◌, codes, decimal, length, Some, Result, Ok, Err, IfErr, IfOk, IsTrue}
 use Rattle.std.specs.List.{concat, count_by, fold}
 use Rattle.sqlite_disk.specs.Disk.{MoreFaults}
 use Rattle.sqlite_disk.specs.declared.Disk.{Ghosts}
 use Rattle.sqlite_disk.specs.declared.Files.{Files}
 use Rattle.sqlite_value.specs.Order.{Row}
 use Rattle.sqlite_wal.specs.Recovery.{Image}
-use Rattle.sqlite.specs.declared.error.ErrorCode.TheVariants as code
 use Rattle.sqlite.specs.declared.error.Error.{Error}
-use Rattle.sqlite.specs.declared.error.Error.TheVariants.{SqliteFailure}
 use Rattle.sqlite.specs.declared.file.Leftover.{Leftover}
 use Rattle.sqlite.specs.Effect.{Database}
 use Rattle.sqlite.specs.Files.{IsCleanLeft, IsFullLeft, faults_left, faults_of}
@@ -27,13 +25,16 @@ use Rattle.upd_sql.specs.LibraryTables.{ShowsTables}
 use Rattle.upd_sql.specs.Schema.{library_schema, meta}
 use Rattle.upd_sqlite.specs.Steps.{Steps}
 use Rattle.upd_sqlite.specs.Stored.{HasRows}
+use Rattle.upd_store.specs.Version.{HasVersion}
 use Rattle.upd_views.specs.SiteLines.{both}
 use Rattle.upd_keep.specs.Keeping.{AreKept}
+use Rattle.upd_keep.specs.Situations.{situation_at_version, situation_of}
 use Rattle.upd_keep.specs.declared.all_rows.AllRows.{AllRows}
 use Rattle.upd_keep.specs.declared.file_examination.Examined.{Examined}
 use Rattle.upd_keep.specs.declared.file_examination.Examined.TheVariants.{Sound, Unsound}
 use Rattle.upd_keep.specs.declared.file_examination.Report.{Report}
 use Rattle.upd_keep.specs.declared.file_examination.Report.TheVariants.{Library, Other}
+use Rattle.upd_keep.specs.declared.situation.Situation.TheVariants.{Unreadable}
 
 -- where the schema is the library's, the table of the version has one row
 abbrev pub HasOneVersion : Database → Type 0
@@ -93,19 +94,16 @@ pub record ExaminesLibrary (opened : State) (found : Examined) (old new : State)
   pub ours : HasCleanDisk old → IsTrue old.is_open → old.committed.schema ≡ library_schema
   pub examines : Examines (Ok found) old new
 
--- there is no library to examine, or that was lost
-abbrev pub IsOther : Result Report Fault → Type 0
-IsOther (Ok (Library found log)) = ⊥
-IsOther (Ok (Other situation)) = Unit {0}
-IsOther (Err fault) = IsLost fault
+-- there is no library to examine, by the error of opening a database; or that was lost
+abbrev pub SaysOpening : Error → Result Report Fault → Type 0
+SaysOpening error (Ok (Library found log)) = ⊥
+SaysOpening error (Ok (Other situation)) = situation_of error ≡ Some situation
+SaysOpening error (Err fault) = IsLost fault
 
--- an error of opening a database that says what is there
-abbrev pub is_told : Error → Bool
-is_told (SqliteFailure code.DatabaseBusy) = true
-is_told (SqliteFailure code.CannotOpen) = true
-is_told (SqliteFailure code.DatabaseCorrupt) = true
-is_told (SqliteFailure code.NotADatabase) = true
-is_told _ = false
+-- a report of a library says whether its log has frames
+abbrev pub HasLog : Bool → Report → Type 0
+HasLog frames (Library found log) = log ≡ frames
+HasLog frames (Other situation) = Unit {0}
 
 -- from these files no connection came: the disk failed once more, or they are too long
 abbrev pub FailsToOpen : {D : Type 0} → Ghosts D → Files D → Type 0
@@ -113,10 +111,13 @@ FailsToOpen {D} g files = (rest : Leftover D g) × (IsCleanLeft rest → MoreFau
 
 -- Connections, and what each of them shows.
 module _ {C : Type 0} (state : C → State) where
-  -- what is said of a database is so of the library that it holds; nothing is promised of what is no library
+  -- What is said of a database is so of the library that it holds. What is no library is called by its version, or has a row that can't be read.
   abbrev pub ReportsOn : C → Result Report Fault → Type 0
   ReportsOn opened (Ok (Library found log)) = (old : C) × (new : C) × ExaminesLibrary (state opened) found (state old) (state new)
-  ReportsOn opened (Ok (Other situation)) = Unit {0}
+  ReportsOn opened (Ok (Other situation)) =
+      (situation ≡ Unreadable)
+      ⊎ ((old : C) × (at : ℕ) × (situation ≡ situation_at_version at)
+      × (HasCleanDisk (state old) → (v : ℕ) → HasVersion v (state opened).committed → (at ≡ v) ⊎ (at ≡ 0)))
   ReportsOn opened (Err fault) = IsLost fault
 
   -- what is said of a file is so of the library that it held

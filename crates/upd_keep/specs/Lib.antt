@@ -2,3 +2,4 @@ pub mod Keeping
 pub mod Copying
 pub mod Examining
 pub mod Replaying
+pub mod Situations

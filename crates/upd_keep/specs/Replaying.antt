@@ -1,5 +1,5 @@
 -- When the stored runs of a library, handed in again at an empty one, give the same library.
-use Rattle.std.specs.Prelude.{◌≡◌, ◌≢◌, ◌⊎◌, ℕ, zero, suc, List, [], ◌∷◌, ◌++◌, codes, decimal, length, Option, Some, None, Result, Ok, IfErr, IfOk, IsTrue}
+use Rattle.std.specs.Prelude.{◌≡◌, ◌≢◌, ◌⊎◌, ℕ, zero, suc, List, [], ◌∷◌, ◌++◌, codes, decimal, length, Option, Some, None, Result, Ok, IfErr, IfOk}
 use Rattle.sqlite.specs.State.{State, HasCleanDisk}
 use Rattle.upd_text.specs.declared.fault.Fault.{Fault}
 use Rattle.upd_records.specs.Rows.{Rows, RunView, Shows, ShowsStates}

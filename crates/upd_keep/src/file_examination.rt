@@ -1,13 +1,14 @@
 //! Whether what is at a path is a sound library.
-ghost use Rattle.std.specs.Prelude.{◌≡◌, ◌++◌, true, false, decimal, IfErr, IfOk, OnOk};
+ghost use Rattle.std.specs.Prelude.{◌≡◌, ◌++◌, true, false, None, decimal, IfErr, IfOk, OnOk};
 ghost use Rattle.std.specs.List.{count_by};
 ghost use Rattle.sqlite.specs.Files.{file_state};
 ghost use Rattle.sqlite.specs.Held.{state};
 ghost use Rattle.sqlite_std_file.specs.File.{IsFresh};
 ghost use Rattle.sqlite_wal.specs.Files.{image_at};
 ghost use Rattle.upd_records.specs.Rows.{Rows};
-ghost use Rattle.upd_keep.specs.Examining.{AreAllRows, Examines, ExaminesFile, FailsToOpen, IsFoundIn, IsOther, ReportsOn};
-ghost use Rattle.upd_keep.specs.Examining.{is_held_deck, is_told, reply_bytes, sound_line};
+ghost use Rattle.upd_keep.specs.Examining.{AreAllRows, Examines, ExaminesFile, FailsToOpen, HasLog, IsFoundIn, ReportsOn, SaysOpening};
+ghost use Rattle.upd_keep.specs.Examining.{is_held_deck, reply_bytes, sound_line};
+ghost use Rattle.upd_keep.specs.Situations.{situation_of};
 ghost use Rattle.upd_store.specs.Faults.{kind_for};
 ghost use Rattle.upd_text.specs.declared.fault.FaultKind.TheVariants.{NoMemory, Store};
 
@@ -163,8 +164,8 @@ pub fn examine<St: Start>(rt: &HostRuntime, path: &str, start: St) -> Result<Rep
 
 /// Why a database can't be opened.
 fn unopened(error: Error) -> Result<Report, Fault>
-    ensures other { IsOther result }
-    ensures failed { IfErr result (λ fault. (is_told error ≡ false) × (fault.kind ≡ kind_for error)) }
+    ensures says { SaysOpening error result }
+    ensures failed { IfErr result (λ fault. (situation_of error ≡ None) × (fault.kind ≡ kind_for error)) }
 {
     match error {
         Error::SqliteFailure(ErrorCode::DatabaseBusy) => Ok(Report::Other(Situation::InUse)),
@@ -185,6 +186,7 @@ fn examine_opened<S: Rising + Drop>(
     size: u64,
 ) -> Result<Report, Fault>
     ensures said { ReportsOn (state S.Store) conn result }
+    ensures log { IfOk result (HasLog log) }
     ensures memory { IfErr result (λ fault. fault.kind ≡ NoMemory) }
 {
     match SqlStore::adopt(conn) {

@@ -1,4 +1,6 @@
 //! What is at a path, as far as it shows without opening a database.
+ghost use Rattle.std.specs.Prelude.{◌≡◌};
+ghost use Rattle.upd_keep.specs.Situations.{situation_of_kind, situation_unread};
 
 use crate::situation::Situation;
 use std::fs::OpenOptions;
@@ -29,19 +31,26 @@ pub(crate) fn situation_at(rt: &HostRuntime, path: &str) -> Option<Situation> {
 /// Why the file at a path is none that can be a library; None where it may be one.
 fn kind_of(rt: &HostRuntime, path: &str) -> io::Result<Option<Situation>> {
     let found = fs::metadata(rt, path)?;
-    if found.is_dir() {
-        return Ok(Some(Situation::Folder));
+    Ok(of_kind(found.is_dir(), found.is_file(), found.nlink(), found.len()))
+}
+
+/// The same of what has this number of names and of bytes.
+fn of_kind(is_folder: bool, is_file: bool, names: u64, length: u64) -> Option<Situation>
+    ensures { result ≡ situation_of_kind is_folder is_file names length }
+{
+    if is_folder {
+        return Some(Situation::Folder);
     }
-    if !found.is_file() {
-        return Ok(Some(Situation::NotRegular));
+    if !is_file {
+        return Some(Situation::NotRegular);
     }
-    if found.nlink() != 1 {
-        return Ok(Some(Situation::SecondName));
+    if names != 1 {
+        return Some(Situation::SecondName);
     }
-    if found.len() == 0 {
-        return Ok(Some(Situation::Empty));
+    if length == 0 {
+        return Some(Situation::Empty);
     }
-    Ok(None)
+    None
 }
 
 fn first_bytes(rt: &HostRuntime, path: &str) -> io::Result<[u8; 16]> {
@@ -57,7 +66,9 @@ fn unwritable(rt: &HostRuntime, path: &str) -> Option<Situation> {
     }
 }
 
-fn of_reading(kind: ErrorKind) -> Situation {
+fn of_reading(kind: ErrorKind) -> Situation
+    ensures { result ≡ situation_unread kind }
+{
     match kind {
         ErrorKind::NotFound | ErrorKind::NotADirectory => Situation::NoFile,
         ErrorKind::UnexpectedEof => Situation::NotSqlite,

@@ -1,4 +1,6 @@
 //! What a path can be instead of a library that can be examined.
+ghost use Rattle.std.specs.Prelude.{◌≡◌};
+ghost use Rattle.upd_keep.specs.Situations.{situation_at_version, words_of};
 
 use upd_text::{Fault, FaultKind};
 
@@ -27,7 +29,9 @@ pub enum Situation {
 
 impl Situation {
     /// What there is, and what to do.
-    pub fn words(self) -> &'static str {
+    pub fn words(self) -> &'static str
+        ensures { result.now ≡ words_of self }
+    {
         match self {
             Situation::LogAlone => {
                 "no file, or an empty one, beside a log, FILE-wal, with commits of a library: put the file of that log back, or move the log away"
@@ -74,7 +78,9 @@ impl Situation {
 }
 
 /// What a file is whose tables were refused with this fault, which is Store at the version in the file.
-pub(crate) fn of_version(fault: Fault) -> Situation {
+pub(crate) fn of_version(fault: Fault) -> Situation
+    ensures { result ≡ situation_at_version fault.at }
+{
     match fault.at {
         0 => Situation::NotLibrary,
         1 | 2 => Situation::OlderSchema,

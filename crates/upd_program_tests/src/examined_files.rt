@@ -7,95 +7,11 @@ use sqlite::Connection;
 use std::fs;
 use std::test::Fail;
 use upd_keep::Situation;
-use upd_testkit::check::{holds, same_text};
+use upd_testkit::check::holds;
 
 const EMPTY_LINE: &str = "sound: decks 0, cards 0, runs 0, replies 0";
 
 const ONE_CARD: Step<'static> = Step::Accepts("1", "full", "*DECK A\nONE\n");
-
-/// What is at a path, and what is said of it.
-const WORDS: [(Situation, &str); 18] = [
-    (
-        Situation::LogAlone,
-        "no file, or an empty one, beside a log, FILE-wal, with commits of a library: put the file of that log back, or move the log away",
-    ),
-    (
-        Situation::NoFile,
-        "there is no such file: check the path; `upd init` makes a library",
-    ),
-    (
-        Situation::Folder,
-        "this is a folder, not a file: check the path",
-    ),
-    (
-        Situation::NotRegular,
-        "this is no regular file: check the path",
-    ),
-    (
-        Situation::SecondName,
-        "the file has a second name, a hard link: remove that name, or make it a copy",
-    ),
-    (
-        Situation::Empty,
-        "the file is empty: `upd init` makes a library in it",
-    ),
-    (
-        Situation::NotSqlite,
-        "this is not a database of SQLite: check the path",
-    ),
-    (
-        Situation::NoPermission,
-        "no permission to read it: let the user read and write the file and its folder",
-    ),
-    (
-        Situation::ReadOnly,
-        "it can't be written, and that is needed to look at it: let the user write it and its folder, or copy it",
-    ),
-    (
-        Situation::CannotOpen,
-        "it can't be opened: let the user write its folder; no link or journal may be beside it",
-    ),
-    (
-        Situation::InUse,
-        "it is in use by another command or a server: try again once that has ended",
-    ),
-    (
-        Situation::Damaged,
-        "the file is damaged: restore a backup; `sqlite3 FILE 'PRAGMA integrity_check'` says more",
-    ),
-    (
-        Situation::BreaksRules,
-        "a database with tables or rows that upd can't take, or a damaged one: check the path, or restore a backup",
-    ),
-    (
-        Situation::NotLibrary,
-        "a database without a library: check the path; after an `upd init` that was ended, call it again",
-    ),
-    (
-        Situation::OlderSchema,
-        "a library of an older schema: copy it, then `upd migrate`",
-    ),
-    (
-        Situation::OtherTables,
-        "a library whose tables were changed or are missing: restore a backup",
-    ),
-    (
-        Situation::Unreadable,
-        "a library with a row that upd can't read, or a damaged one: restore a backup",
-    ),
-    (
-        Situation::NewerSchema,
-        "a library of a newer schema: use the newer upd",
-    ),
-];
-
-#[test]
-fn each_situation_has_its_words(_: HostRuntime) -> Result<(), Fail> {
-    for (situation, words) in WORDS {
-        same_text(situation, situation.words(), words)?;
-    }
-    Ok(())
-}
 
 #[test]
 fn a_sound_library_is_counted(rt: HostRuntime) -> Result<(), Fail> {

@@ -115,6 +115,25 @@ fn a_long_body_is_answered(rt: HostRuntime) -> Result<(), Fail> {
     are_served(&rt, &listener(&rt)?, (&rt, 1), &exchanges)
 }
 
+const TAKEN_AT_1002: &str =
+    "HTTP/1.1 422 Unprocessable Entity\r\nContent-Type: application/json\r\nContent-Length: 96\r\n\
+Connection: close\r\n\r\n{\"at\":1002,\"fault\":10,\"mode\":\"quick\",\"name\":\"NameTaken\",\"run\":1,\
+\"site\":\"LYON\",\"state\":\"refused\"}";
+
+/// A body of 60,016 bytes, which take many reads, is read whole: the last of its lines is refused.
+#[test]
+fn a_large_body_is_read_whole(rt: HostRuntime) -> Result<(), Fail> {
+    let head = b"POST /sites/LYON/runs/1/quick HTTP/1.1\r\nContent-Length: 60016\r\n\r\n*DECK A\n";
+    let mut request = Vec::from_slice(rt.alloc(), head)?;
+    for _ in 0..1_000 {
+        request.extend_from_slice(&[b'x'; 59])?;
+        request.push(b'\n')?;
+    }
+    request.extend_from_slice(b"*DECK A\n")?;
+    let exchanges = [(request.as_slice(), TAKEN_AT_1002)];
+    are_served(&rt, &listener(&rt)?, (&rt, 1), &exchanges)
+}
+
 /// A listener that doesn't wait: nobody has connected, so no connection can be accepted.
 fn idle_listener(rt: &HostRuntime) -> Result<TcpListener, Fail> {
     let listener = listener(rt)?;

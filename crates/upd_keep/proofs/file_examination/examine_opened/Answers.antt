@@ -1,4 +1,4 @@
-use Rattle.upd_keep.proofs.Common.{◌≡◌, sym, ap, subst, IsTrue, Held, state, HasCleanDisk, Fault, OfMemory, library_schema, clean_before}
+use Rattle.upd_keep.proofs.Common.{◌≡◌, inr, sym, ap, subst, IsTrue, Held, state, HasCleanDisk, Fault, OfMemory, library_schema, clean_before}
 use Rattle.upd_keep.proofs.file_examination.examine_opened.Goals as goal
 
 pub returns-in-Ok-examine_tables-clause-said : goal.returns-in-Ok-examine_tables-clause-said
@@ -19,6 +19,9 @@ returns-in-Ok-examine_tables-clause-said g c =
         examines = c.in-Ok-examine_tables.ensures.examines;
       },
     )
+
+pub returns-clause-said : goal.returns-clause-said
+returns-clause-said g c = inr (c.in-Err.field-0-1, c.in-Err.fault.at, c.of_version.ensures, c.in-Err.ensures.version)
 
 pub returns-in-NoMemory-clause-said : goal.returns-in-NoMemory-clause-said
 returns-in-NoMemory-clause-said g c = OfMemory _ (ap (λ (f : Fault). f.kind) c.without_line.ensures) (ap (λ (f : Fault). f.at) c.without_line.ensures)

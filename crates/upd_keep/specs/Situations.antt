@@ -1,0 +1,59 @@
+-- What there is in place of a library: its words, and how a version or an error says it.
+use Rattle.std.specs.Prelude.{ℕ, ◌==◌, nat_lt, Bool, true, false, if◌then◌else◌, List, codes, Option, Some, None}
+use Rattle.std.specs.declared.io.ErrorKind.{ErrorKind}
+use Rattle.std.specs.declared.io.ErrorKind.TheVariants as io
+use Rattle.sqlite.specs.declared.error.ErrorCode.TheVariants as code
+use Rattle.sqlite.specs.declared.error.Error.{Error}
+use Rattle.sqlite.specs.declared.error.Error.TheVariants.{SqliteFailure}
+use Rattle.upd_keep.specs.declared.situation.Situation.{Situation}
+use Rattle.upd_keep.specs.declared.situation.Situation.TheVariants.{LogAlone, NoFile, Folder, NotRegular, SecondName, Empty, NotSqlite, NoPermission}
+use Rattle.upd_keep.specs.declared.situation.Situation.TheVariants.{ReadOnly, CannotOpen, InUse, Damaged, BreaksRules, NotLibrary, OlderSchema, OtherTables}
+use Rattle.upd_keep.specs.declared.situation.Situation.TheVariants.{Unreadable, NewerSchema}
+
+-- what there is, and what to do
+abbrev pub words_of : Situation → List ℕ
+words_of LogAlone = codes "no file, or an empty one, beside a log, FILE-wal, with commits of a library: put the file of that log back, or move the log away"
+words_of NoFile = codes "there is no such file: check the path; `upd init` makes a library"
+words_of Folder = codes "this is a folder, not a file: check the path"
+words_of NotRegular = codes "this is no regular file: check the path"
+words_of SecondName = codes "the file has a second name, a hard link: remove that name, or make it a copy"
+words_of Empty = codes "the file is empty: `upd init` makes a library in it"
+words_of NotSqlite = codes "this is not a database of SQLite: check the path"
+words_of NoPermission = codes "no permission to read it: let the user read and write the file and its folder"
+words_of ReadOnly = codes "it can't be written, and that is needed to look at it: let the user write it and its folder, or copy it"
+words_of CannotOpen = codes "it can't be opened: let the user write its folder; no link or journal may be beside it"
+words_of InUse = codes "it is in use by another command or a server: try again once that has ended"
+words_of Damaged = codes "the file is damaged: restore a backup; `sqlite3 FILE 'PRAGMA integrity_check'` says more"
+words_of BreaksRules = codes "a database with tables or rows that upd can't take, or a damaged one: check the path, or restore a backup"
+words_of NotLibrary = codes "a database without a library: check the path; after an `upd init` that was ended, call it again"
+words_of OlderSchema = codes "a library of an older schema: copy it, then `upd migrate`"
+words_of OtherTables = codes "a library whose tables were changed or are missing: restore a backup"
+words_of Unreadable = codes "a library with a row that upd can't read, or a damaged one: restore a backup"
+words_of NewerSchema = codes "a library of a newer schema: use the newer upd"
+
+-- why what is at a path can be no library, by whether it is a folder or a file, and by the number of its names and its bytes
+abbrev pub situation_of_kind : Bool → Bool → ℕ → ℕ → Option Situation
+situation_of_kind true is_file names length = Some Folder
+situation_of_kind false false names length = Some NotRegular
+situation_of_kind false true names length = if names == 1 then (if length == 0 then Some Empty else None) else Some SecondName
+
+-- what a file with other tables is, by the version in it, 0 where it has none
+abbrev pub situation_at_version : ℕ → Situation
+situation_at_version v =
+    if v == 0 then NotLibrary else (if nat_lt v 3 then OlderSchema else (if v == 3 then OtherTables else NewerSchema))
+
+-- what the error of opening a database says is there, if it says so
+abbrev pub situation_of : Error → Option Situation
+situation_of (SqliteFailure code.DatabaseBusy) = Some InUse
+situation_of (SqliteFailure code.CannotOpen) = Some CannotOpen
+situation_of (SqliteFailure code.DatabaseCorrupt) = Some Damaged
+situation_of (SqliteFailure code.NotADatabase) = Some BreaksRules
+situation_of _ = None
+
+-- what is at a path whose file can't be read
+abbrev pub situation_unread : ErrorKind → Situation
+situation_unread io.NotFound = NoFile
+situation_unread io.NotADirectory = NoFile
+situation_unread io.UnexpectedEof = NotSqlite
+situation_unread io.PermissionDenied = NoPermission
+situation_unread _ = CannotOpen
