@@ -1,5 +1,5 @@
 #!/usr/bin/env python3
-"""Tries the lasting executable as sites do: curl and plain sockets against `upd serve`, and the sqlite3 shell on the file.
+"""Tries the lasting executable as sites do: curl and plain sockets against `upd serve` and `upd serve-local`, and the sqlite3 shell on the file.
 
     python3 bench/wire.py [--executable FILE] [--times]
 
@@ -10,10 +10,12 @@ passed.
 
 import argparse
 import json
+import os
 import re
 import resource
 import shutil
 import socket
+import stat
 import statistics
 import subprocess
 import sys
@@ -22,7 +24,7 @@ import time
 from pathlib import Path
 
 sys.dont_write_bytecode = True
-from needs import add_executable, there, tools  # noqa: E402
+from needs import ROOT, add_executable, there, tools  # noqa: E402
 
 
 def free_port():
@@ -205,6 +207,68 @@ def try_sqlite3(file):
     check("sqlite3 on the runs", shell.stdout.split(), ["LYON|2|0|0", "LYON|3|0|0", "LYON|6|1|1", "PARIS|1|1|1", "PARIS|3|1|1", "ok"])
 
 
+def serve_local(upd, file, path, count):
+    """`upd serve-local` at a path, and the first line that it writes."""
+    server = subprocess.Popen([upd, "serve-local", file, path, str(count)], stderr=subprocess.PIPE, text=True)
+    return server, server.stderr.readline()
+
+
+def ends(server):
+    """The status of a server, and its lines after the first."""
+    lines = server.stderr.read()
+    return server.wait(timeout=20), lines
+
+
+def asks(path):
+    """The first line of what a socket answers."""
+    with socket.socket(socket.AF_UNIX) as client:
+        client.connect(str(path))
+        client.sendall(b"GET /idents HTTP/1.1\r\n\r\n")
+        client.shutdown(socket.SHUT_WR)
+        return client.recv(65536).split(b"\r\n")[0].decode()
+
+
+def try_local(upd, folder):
+    """A socket is for its owner only, is replaced where nobody serves it, and is made nowhere else."""
+    file, path, notes = folder / "local.db", folder / "desk.socket", folder / "notes"
+    subprocess.run([upd, "init", file], check=True)
+    folder.chmod(0o755)
+    server, line = serve_local(upd, file, path, 4)
+    check("upd serve-local says", line, f"upd: listening on {path}\n")
+    mode = path.lstat().st_mode
+    check("a socket, its mode", (stat.S_ISSOCK(mode), oct(mode & 0o7777)), (True, "0o600"))
+    check("the folder where it was made", Path(f"{path}.new").exists(), False)
+    check("a plain socket", asks(path), "HTTP/1.1 200 OK")
+    check("curl --unix-socket", status(curl("--unix-socket", path, "http://desk/idents")), "HTTP/1.1 200 OK")
+    if os.getuid() == 0:
+        other = subprocess.run(["curl", "-s", "--unix-socket", path, "http://desk/idents"], user="nobody", capture_output=True, check=False)
+        check("curl of another user, its status", other.returncode, 7)
+    (folder / "outbox").mkdir()
+    (folder / "outbox/fix.quick").write_bytes(RUN)
+    site = subprocess.run([ROOT / "examples/site.sh", folder, "LYON", "http://desk"], env={**os.environ, "SOCKET": str(path)},
+                          capture_output=True, check=False, text=True)
+    check("site.sh with SOCKET", (site.returncode, site.stdout), (0, "1.fix.quick is accepted\n"))
+    found, lines = ends(server)
+    check("upd serve-local ends, with lines", (found, sum(map(bool, map(LINE.fullmatch, lines.splitlines())))), (0, 4))
+    server, _ = serve_local(upd, file, path, 9)
+    server.kill()
+    ends(server)
+    server, line = serve_local(upd, file, path, 2)
+    check("the socket of a killed server is replaced", line, f"upd: listening on {path}\n")
+    subprocess.run([upd, "init", folder / "second.db"], check=True)
+    second, line = serve_local(upd, folder / "second.db", path, 1)
+    check("another server there", (line, ends(second)), (f"upd: no socket at {path}: another server may use it\n", (3, "upd: Read (32) at 0\n")))
+    check("the first is still asked", asks(path), "HTTP/1.1 200 OK")
+    check("it ends", ends(server)[0], 0)
+    notes.write_text("notes")
+    refused = [(notes, "something else is there"), (folder, "something else is there"),
+               (folder / ("x" * 100), "its path has more than 100 bytes"), (folder / "none/x", "it can't be made, or PATH.new exists")]
+    for place, why in refused:
+        server, line = serve_local(upd, file, place, 1)
+        check(f"a socket at {place}", (line, ends(server)), (f"upd: no socket at {place}: {why}\n", (3, "upd: Read (32) at 0\n")))
+    check("the file there", notes.read_text(), "notes")
+
+
 def spent(words, data=b""):
     """Processor seconds of a command, and its output."""
     before = resource.getrusage(resource.RUSAGE_CHILDREN)
@@ -353,6 +417,7 @@ def main():
         try_sockets(upd, file)
         try_file_alone(upd, file)
         try_sqlite3(file)
+        try_local(upd, Path(folder))
         if words.times:
             try_times(upd, Path(folder))
     sys.exit(bad > 0)

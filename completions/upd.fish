@@ -1,5 +1,5 @@
 # fish completion of upd and of its scripts, to be installed as /etc/fish/completions/upd.fish, with links for the scripts
-set -l commands trial init run settle spool serve compile list history blame show idents yanks page text text-at correct correct-at correct-parts try source runs sites backup examine replay migrate explain help
+set -l commands trial init run settle spool serve serve-local compile list history blame show idents yanks page text text-at correct correct-at correct-parts try source runs sites backup examine replay migrate explain help
 complete -c upd -f
 complete -c upd -n "not __fish_seen_subcommand_from $commands" -a trial -d 'apply a run to an empty library'
 complete -c upd -n "not __fish_seen_subcommand_from $commands" -a init -d 'make an empty library in a file'
@@ -7,6 +7,7 @@ complete -c upd -n "not __fish_seen_subcommand_from $commands" -a run -d 'send t
 complete -c upd -n "not __fish_seen_subcommand_from $commands" -a settle -d 'settle a site up to a number'
 complete -c upd -n "not __fish_seen_subcommand_from $commands" -a spool -d 'send the runs of a spool to a library'
 complete -c upd -n "not __fish_seen_subcommand_from $commands" -a serve -d 'serve HTTP connections'
+complete -c upd -n "not __fish_seen_subcommand_from $commands" -a serve-local -d 'serve HTTP connections on a socket for its owner'
 complete -c upd -n "not __fish_seen_subcommand_from $commands" -a compile -d 'write the full compile file'
 complete -c upd -n "not __fish_seen_subcommand_from $commands" -a list -d 'list the cards of a deck'
 complete -c upd -n "not __fish_seen_subcommand_from $commands" -a history -d 'list what is known of a card'
@@ -37,7 +38,7 @@ complete -c upd -n "__fish_seen_subcommand_from correct-parts; and test $words -
 complete -c upd -n "__fish_seen_subcommand_from explain; and test $words -eq 2" -a 'RunLong TooManyLines BadByte LineLong BadName BadCard BadField NoIdent TextNowhere NameTaken IdentUnknown DeckUnknown CardUnknown RangeOrder DeckCard YankText YankSelf Reserved Full CallUnknown CallDepth CompileLong BadSite BadNumber BadMode RunChanged Settled NoMemory Store BadFrame CutFrame Read Write'
 complete -c upd -n "__fish_seen_subcommand_from try; and test $words -eq 3" -a 'full quick normal'
 complete -c upd -n "__fish_seen_subcommand_from help; and test $words -eq 2" -a "$commands"
-complete -c upd -n "__fish_seen_subcommand_from init run settle spool serve compile list history blame show idents yanks page text text-at correct correct-at correct-parts try source runs sites backup examine replay migrate; and test $words -eq 2" -F
+complete -c upd -n "__fish_seen_subcommand_from init run settle spool serve serve-local compile list history blame show idents yanks page text text-at correct correct-at correct-parts try source runs sites backup examine replay migrate; and test $words -eq 2" -F
 complete -c upd -s h -l help -d 'show the words of a command'
 complete -c upd -s V -l version -d 'show the version'
 

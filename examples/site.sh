@@ -3,6 +3,7 @@
 #
 #     site.sh FOLDER SITE FILE     runs go to the library in FILE, by the program UPD (`upd` unless it is set)
 #     site.sh FOLDER SITE URL      runs go to a server, as http://127.0.0.1:8080, by curl
+#     SOCKET=PATH site.sh FOLDER SITE http://desk      runs go to `upd serve-local`, whose socket is PATH
 #
 #     FOLDER/outbox/fix.full       a run that you put here; the name ends in the mode, .full, .quick or .normal
 #     FOLDER/sent/7.fix.full       the same run, once it has its number
@@ -120,7 +121,7 @@ number_runs() {
 
 # Posts the data to a path of the site, and writes the answer to a file. The status is 000 where there is no whole answer.
 post() {
-    status=$(curl ${CURL_CONFIG:+--config "$CURL_CONFIG"} --silent --max-time 60 --header Expect: --header Content-Type: \
+    status=$(curl ${CURL_CONFIG:+--config "$CURL_CONFIG"} ${SOCKET:+--unix-socket "$SOCKET"} --silent --max-time 60 --header Expect: --header Content-Type: \
         --output "$1" --write-out '%{http_code}' --data-binary "$2" "$desk/sites/$site/$3") || status=000
     case $status in
     401) say "the answer is 401: check the password, in the file that CURL_CONFIG names" ;;

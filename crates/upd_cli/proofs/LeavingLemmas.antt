@@ -98,7 +98,7 @@ front_all (Run site number mode) old mid new first none waits front other =
     subst (λ i. TakesFront (MAX_RUN_BYTES + 1) i new) (none (λ no. no)) (front other)
 front_all Spool old mid new first none waits front other = absurd (other tt)
 front_all (Settle site number) old mid new first none waits front other = subst (TakesFront (MAX_RUN_BYTES + 1) old) (sym (waits (λ no. no))) first
-front_all (Serve address count) old mid new first none waits front other = subst (TakesFront (MAX_RUN_BYTES + 1) old) (sym (waits (λ no. no))) first
+front_all (Serve endpoint count) old mid new first none waits front other = subst (TakesFront (MAX_RUN_BYTES + 1) old) (sym (waits (λ no. no))) first
 front_all (Correct set) old mid new first none waits front other = subst (TakesFront (most_read (Correct set)) old) (sym (waits (λ no. no))) first
 front_all (CorrectAt set since) old mid new first none waits front other = subst (TakesFront (most_read (Correct set)) old) (sym (waits (λ no. no))) first
 front_all (CorrectParts set site number mode) old mid new first none waits front other =

@@ -29,7 +29,7 @@ abbrev pub Begins : {S : Type 0} → Ghosts S → Command → S → S → Type 0
 Begins meaning (Run site number mode) old begun = IsWarmed meaning old begun
 Begins meaning Spool old begun = IsWarmed meaning old begun
 Begins meaning (Try mode) old begun = IsWarmed meaning old begun
-Begins meaning (Serve address count) old begun = IsWarmed meaning old begun
+Begins meaning (Serve endpoint count) old begun = IsWarmed meaning old begun
 Begins meaning _ old begun = begun ≡ old
 
 -- an edited text was answered from a listing

@@ -138,6 +138,7 @@ const ABOUT: &[(&str, &str)] = &[
     ("settle", "Settles a site's runs"),
     ("spool", "Sends the runs of a spool"),
     ("serve", "Serves COUNT HTTP connections"),
+    ("serve-local", "Does what `serve` does"),
     ("compile", "Writes the compile file"),
     ("list", "Lists the cards of a deck"),
     ("history", "Lists what is known of a card"),

@@ -46,6 +46,7 @@ pub const COMMANDS: &[(&str, &[&str])] = &[
     ("settle", &["LYON", "1"]),
     ("spool", &[]),
     ("serve", &["127.0.0.1:0", "1"]),
+    ("serve-local", &["upd.socket", "1"]),
     ("compile", &[]),
     ("list", &["A"]),
     ("history", &["A.2"]),

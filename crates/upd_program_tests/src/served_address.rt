@@ -1,10 +1,13 @@
-//! Where `serve` listens, as it says itself: its fault stream is a client that connects there and sends a request.
-use crate::console::{library, remove};
+//! Where `serve` and `serve-local` listen, as they say: their fault stream is a client that connects there and asks.
+use crate::console::{answers, library, remove};
 use std::alloc::Global;
-use std::io;
 use std::io::{ErrorKind, Read, Write};
-use std::net::{Shutdown, SocketAddr, TcpStream};
+use std::net::{Shutdown, TcpStream};
+use std::os::unix::fs::{FileTypeExt, MetadataExt};
+use std::os::unix::io::OwnedFd;
+use std::os::unix::net::{UnixListener, UnixStream};
 use std::test::Fail;
+use std::{fs, io};
 use upd_cli::run_command;
 use upd_testkit::check::{holds, same, same_text};
 
@@ -14,11 +17,11 @@ const IDENTS: &str = "GET /idents HTTP/1.1\r\n\r\n";
 const NO_IDENTS: &str =
     "HTTP/1.1 200 OK\r\nContent-Type: text/plain\r\nContent-Length: 0\r\nConnection: close\r\n\r\n";
 
-/// A client, and the address that it has reached.
+/// A client, and the address or the path that it has reached.
 #[derive(Drop)]
 struct Client {
     stream: TcpStream,
-    address: SocketAddr,
+    place: String,
 }
 
 /// A fault stream that takes a line for that of `serve`, and sends a request to its address.
@@ -38,13 +41,24 @@ fn address_in(line: &[u8]) -> Option<&str> {
     text.strip_prefix("upd: listening on ")?.strip_suffix("\n")
 }
 
+/// A client at an address, or at a path, which begins with a slash.
+fn connected(rt: &HostRuntime, place: &str) -> io::Result<Client> {
+    if place.starts_with('/') {
+        let stream = TcpStream::from(OwnedFd::from(UnixStream::connect(rt, place)?));
+        let place = String::from_str(rt.alloc(), place)?;
+        return Ok(Client { stream, place });
+    }
+    let stream = TcpStream::connect(rt, place)?;
+    let place = format!(in rt.alloc(); "{}", stream.peer_addr()?)?;
+    Ok(Client { stream, place })
+}
+
 /// A client that has sent a request.
-fn client_at(rt: &HostRuntime, address: &str, request: &str) -> io::Result<Client> {
-    let mut stream = TcpStream::connect(rt, address)?;
-    let address = stream.peer_addr()?;
-    stream.write_all(request.as_bytes())?;
-    stream.shutdown(Shutdown::Write)?;
-    Ok(Client { stream, address })
+fn client_at(rt: &HostRuntime, place: &str, request: &str) -> io::Result<Client> {
+    let mut client = connected(rt, place)?;
+    client.stream.write_all(request.as_bytes())?;
+    client.stream.shutdown(Shutdown::Write)?;
+    Ok(client)
 }
 
 impl Write for Caller<'_> {
@@ -64,14 +78,18 @@ impl Write for Caller<'_> {
     }
 }
 
-/// What is written where `serve` takes one connection at a free port, and the client that it served.
+/// A command at a free port.
+const FREE: (&str, &str) = ("serve", "127.0.0.1:0");
+
+/// What is written where a command takes one connection at a place, and the client that it served.
 fn served(
     rt: &HostRuntime,
     file: &str,
+    (command, place): (&str, &str),
     request: &str,
     is_broken: bool,
 ) -> Result<(Vec<u8>, Client), Fail> {
-    let words = ["upd", "serve", file, "127.0.0.1:0", "1"];
+    let words = ["upd", command, file, place, "1"];
     let mut output = Vec::new(rt.alloc());
     let mut caller = Caller {
         rt,
@@ -100,27 +118,29 @@ fn is_answered(alloc: Global, mut client: Client, wanted: &str) -> Result<(), Fa
 
 /// `serve` answers a request by this.
 pub fn serves(rt: &HostRuntime, file: &str, request: &str, wanted: &str) -> Result<(), Fail> {
-    let (_, client) = served(rt, file, request, false)?;
+    let (_, client) = served(rt, file, FREE, request, false)?;
     is_answered(rt.alloc(), client, wanted)
 }
 
-/// What is written is the line with a client's address, and then this line up to the milliseconds.
+/// What is written is the line with a client's place, and then this line up to the milliseconds.
 fn is_line_of(alloc: Global, written: &[u8], client: &Client, wanted: &str) -> Result<(), Fail> {
     let text = std::str::from_utf8(written)?;
     let (lines, millis) = text.rsplit_once(' ').ok_or("no blank")?;
-    let wanted = format!(in alloc; "upd: listening on {}\n{wanted}", client.address)?;
+    let wanted = format!(in alloc; "upd: listening on {}\n{wanted}", client.place)?;
     same_text("the faults", lines, &wanted)?;
     let digits = millis.strip_suffix("ms\n").ok_or("no milliseconds")?;
     holds("a number", digits.parse::<u64>().is_ok())
 }
 
+/// The line of a connection, up to the milliseconds.
+const ASKED: &str = "upd: GET /idents - - 200 ok 24 83";
+
 /// A client is answered at the port that the line has, which isn't the 0 of the command line.
 #[test]
 fn the_line_of_serve_has_the_port_where_clients_are_answered(rt: HostRuntime) -> Result<(), Fail> {
     let file = library(&rt, "listening")?;
-    let (written, client) = served(&rt, &file, IDENTS, false)?;
-    let line = "upd: GET /idents - - 200 ok 24 83";
-    is_line_of(rt.alloc(), &written, &client, line)?;
+    let (written, client) = served(&rt, &file, FREE, IDENTS, false)?;
+    is_line_of(rt.alloc(), &written, &client, ASKED)?;
     is_answered(rt.alloc(), client, NO_IDENTS)?;
     remove(&rt, &file)
 }
@@ -128,8 +148,53 @@ fn the_line_of_serve_has_the_port_where_clients_are_answered(rt: HostRuntime) ->
 #[test]
 fn serve_goes_on_where_its_line_is_not_taken(rt: HostRuntime) -> Result<(), Fail> {
     let file = library(&rt, "unheard")?;
-    let (written, client) = served(&rt, &file, IDENTS, true)?;
+    let (written, client) = served(&rt, &file, FREE, IDENTS, true)?;
     same("bytes written", written.len(), 0)?;
     is_answered(rt.alloc(), client, NO_IDENTS)?;
+    remove(&rt, &file)
+}
+
+/// A client at a path is answered. The owner's socket is left there, and nothing else of how it was made.
+fn is_served_at(rt: &HostRuntime, file: &str, path: &str) -> Result<(), Fail> {
+    let (written, client) = served(rt, file, ("serve-local", path), IDENTS, false)?;
+    same_text("the path", &client.place, path)?;
+    is_line_of(rt.alloc(), &written, &client, ASKED)?;
+    is_answered(rt.alloc(), client, NO_IDENTS)?;
+    let found = fs::symlink_metadata(rt, path)?;
+    let (is_socket, mode) = (found.file_type().is_socket(), found.mode() & 0o777);
+    same("a socket, its mode", (is_socket, mode), (true, 0o600))?;
+    let folder = format!(in rt.alloc(); "{path}.new")?;
+    holds("no folder", !fs::exists(rt, folder.as_str())?)
+}
+
+/// The socket that a server has left is replaced by the next one's.
+#[test]
+fn a_socket_is_for_its_owner(rt: HostRuntime) -> Result<(), Fail> {
+    let file = library(&rt, "local")?;
+    let path = format!(in rt.alloc(); "{file}.socket")?;
+    is_served_at(&rt, &file, &path)?;
+    is_served_at(&rt, &file, &path)?;
+    fs::remove_file(&rt, path.as_str())?;
+    remove(&rt, &file)
+}
+
+/// No socket is made at a path, for this reason.
+fn is_unserved(rt: &HostRuntime, file: &str, path: &str, why: &str) -> Result<(), Fail> {
+    let lines = format!(in rt.alloc(); "upd: no socket at {path}: {why}\nupd: Read (32) at 0\n")?;
+    answers(rt, &["serve-local", file, path, "1"], "", (3, "", &lines))
+}
+
+/// What is at a path stays, but for a socket that nobody serves.
+#[test]
+fn a_socket_replaces_nothing_else(rt: HostRuntime) -> Result<(), Fail> {
+    let file = library(&rt, "taken")?;
+    is_unserved(&rt, &file, &file, "something else is there")?;
+    is_unserved(&rt, &file, "/", "something else is there")?;
+    let path = format!(in rt.alloc(); "{file}.socket")?;
+    let _listener = UnixListener::bind(&rt, path.as_str())?;
+    is_unserved(&rt, &file, &path, "another server may use it")?;
+    fs::remove_file(&rt, path.as_str())?;
+    let long = "x".repeat(rt.alloc(), 101)?;
+    is_unserved(&rt, &file, &long, "its path has more than 100 bytes")?;
     remove(&rt, &file)
 }

@@ -38,6 +38,7 @@ use Rattle.upd_wire.specs.Spools.{Ends}
 use Rattle.upd_wire.specs.Serving.{LeadsThrough, Made}
 use Rattle.upd_subcommands.specs.Listening.{ReportsServing}
 use Rattle.upd_words.specs.declared.words.Command.{Command}
+use Rattle.upd_words.specs.declared.words.Endpoint.{Endpoint}
 use Rattle.upd_words.specs.declared.words.Command.TheVariants.{Run, Settle, Spool, Serve, Correct, CorrectAt, CorrectParts, Try, Ask}
 use Rattle.upd_words.specs.declared.querying.Query.{Query}
 use Rattle.upd_words.specs.declared.querying.Query.TheVariants.{Compile, Deck, Card, Idents, Yanks, View}
@@ -135,11 +136,11 @@ module _ {S : Type 0} (meaning : Ghosts S) where
       (status ≡ 0) × ((count : ℕ) × Ends meaning old new input input' output output' (Ok count))
   EndsSpool (Err fault) old new input input' output output' = Ends meaning old new input input' output output' (Err fault)
 
-  -- At most this number of connections were served, all of them unless a read failed. The fault stream got the address before them, and a line for each
+  -- At most this number of connections were served, all of them unless a read failed. The fault stream got the endpoint before them, and a line for each
   -- that says what the desk did, but for lines that could not be written.
-  pub record EndsServing (count : ℕ) (ended : Result ℕ Fault) (old new : S) (faults faults' : Option (List ℕ)) : Type 0 where
+  pub record EndsServing (endpoint : Endpoint) (count : ℕ) (ended : Result ℕ Fault) (old new : S) (faults faults' : Option (List ℕ)) : Type 0 where
     pub leads : (made : List Made) × (length made ≤ count) × OnOk ended (length made ≡ count) × LeadsThrough meaning made old new
-        × ReportsServing made faults faults'
+        × ReportsServing endpoint made faults faults'
     pub status : IfOk ended (λ status. status ≡ 0)
     pub err : IfErr ended (λ fault. fault ≡ read_failed)
 
@@ -149,7 +150,7 @@ module _ {S : Type 0} (meaning : Ghosts S) where
       HandsIn site.now number mode.now (before input) ended old new (before output) (after output)
   Does (Settle site number) text ended old new input output faults = SettlesSite site.now number ended old new (before output) (after output)
   Does Spool text ended old new input output faults = EndsSpool ended old new (before input) (after input) (before output) (after output)
-  Does (Serve address count) text ended old new input output faults = EndsServing count ended old new (before faults) (after faults)
+  Does (Serve endpoint count) text ended old new input output faults = EndsServing endpoint count ended old new (before faults) (after faults)
   Does (Correct set) text ended old new input output faults =
       IsOkAnd ended (λ status. CorrectsText set.now text old new (ending status (before output) (after output) (before faults) (after faults)))
   Does (CorrectAt set since) text ended old new input output faults =

@@ -40,7 +40,7 @@ WritesRefusals command = HandsRuns command
 -- it may write to the fault stream though all is done: warnings, or where it listens
 abbrev pub UsesFaults : Command → Type 0
 UsesFaults (Try mode) = Unit {0}
-UsesFaults (Serve address count) = Unit {0}
+UsesFaults (Serve endpoint count) = Unit {0}
 UsesFaults _ = ⊥
 
 -- at most this number of bytes of the input is read, but by `spool`: a byte more than a run or an edited text may have

@@ -1,9 +1,9 @@
 //! Commands at the desk of a library.
-ghost use Rattle.std.specs.Prelude.{◌≡◌, ◌≤◌, ◌⊎◌, ◌+◌, List, length, IfErr, IfOk, OnOk};
+ghost use Rattle.std.specs.Prelude.{◌≡◌, ◌≤◌, ◌⊎◌, ◌+◌, ℕ, List, length, IfErr, IfOk, OnOk};
+ghost use Rattle.upd_wire.specs.LogLines.{Logs, ServedView};
 ghost use Rattle.upd_wire.specs.Serving.{LeadsThrough, Made};
-ghost use Rattle.upd_subcommands.specs.DeskCommands.{Does, EndsSpool};
+ghost use Rattle.upd_subcommands.specs.DeskCommands.{Does, EndsServing, EndsSpool};
 ghost use Rattle.upd_subcommands.specs.Inputs.{HandsRuns, IsFirstRead, IsSpool, UsesFaults, ReadsFirst, WritesRefusals, most_read};
-ghost use Rattle.upd_subcommands.specs.Listening.{ReportsServing};
 ghost use Rattle.upd_subcommands.specs.Status.{exit_status, no_memory, read_failed};
 ghost use Rattle.upd_subcommands.specs.Streams.{TakesFront, stream};
 ghost use Rattle.upd_text.specs.declared.fault.Fault.{Fault};
@@ -12,19 +12,20 @@ ghost use Rattle.upd_text.specs.declared.limits.TheConstants.{MAX_RUN_BYTES};
 use crate::arriving::{hand_in, settle, try_run};
 use crate::correction_command::{correct_text, correct_text_since};
 use crate::exit_status::DONE;
-use crate::listening::report_place;
+use crate::listening::{report_path, report_place};
+use crate::local_socket::bind_local;
 use crate::parts_command::correct_text_in_parts;
 use crate::queries::answer_query;
 use crate::streams::{read_front, read_input};
 use std::alloc::Global;
 use std::io::{Read, Write};
-use std::net::{SocketAddr, TcpListener};
+use std::net::TcpListener;
 use upd_desk::Desk;
 use upd_edit::MAX_TEXT_BYTES;
 use upd_row_store::RowStore;
 use upd_text::{Fault, FaultKind};
-use upd_wire::{serve_on_within, spool};
-use upd_words::Command;
+use upd_wire::{Listener, serve_on_within, spool};
+use upd_words::{Command, Endpoint};
 
 /// What `try` and the commands for edited texts read of the input before the file is opened, so that it can come from a command on the same
 /// file. Nothing for another command.
@@ -77,7 +78,7 @@ pub fn carry_out_at<S: RowStore, R: Read, W: Write, E: Write>(
         }
         Command::Settle { site, number } => settle(alloc, desk, site, *number, output),
         Command::Spool => read_spool(alloc, desk, input, output),
-        Command::Serve { address, count } => serve(rt, *address, *count, desk, faults),
+        Command::Serve { endpoint, count } => serve(rt, endpoint, *count, desk, faults),
         Command::Correct { set } => Ok(correct_text(alloc, desk, set, text, output, faults)),
         Command::CorrectAt { set, since } => Ok(correct_text_since(
             alloc, desk, since, set, text, output, faults,
@@ -110,29 +111,57 @@ fn read_spool<S: RowStore, R: Read, W: Write>(
     }
 }
 
-/// Serves `count` connections at an address. Where it listens goes to `faults`, and a line for each connection; a
-/// failure of that doesn't end it. Read, at 0, where the address can't be bound.
+/// Serves `count` connections at an endpoint. Where it listens goes to `faults`, and a line for each connection; a
+/// failure of that doesn't end it. Read, at 0, where the endpoint can't be bound; why there is no socket goes to
+/// `faults`.
 fn serve<S: RowStore, E: Write>(
     rt: &HostRuntime,
-    address: SocketAddr,
+    endpoint: &Endpoint<'_>,
+    count: u32,
+    desk: &mut Desk<S>,
+    faults: &mut E,
+) -> Result<u8, Fault>
+    ensures { EndsServing S.Meaning endpoint.now count result desk.old.store desk.new.store
+        (E.contents faults.old) (E.contents faults.new) }
+{
+    let alloc = rt.alloc();
+    match endpoint {
+        Endpoint::Address(address) => match TcpListener::bind(rt, *address) {
+            Ok(listener) => {
+                let _ = report_place(&listener, faults);
+                serve_at(rt, Listener::Tcp(&listener), count, desk, faults)
+            }
+            Err(_) => Err(FaultKind::Read.without_line()),
+        },
+        Endpoint::Path(path) => match bind_local(rt, path) {
+            Ok(listener) => {
+                let _ = report_path(alloc, "listening on ", path, "", faults);
+                serve_at(rt, Listener::Unix(&listener), count, desk, faults)
+            }
+            Err(why) => {
+                let _ = report_path(alloc, "no socket at ", path, why, faults);
+                Err(FaultKind::Read.without_line())
+            }
+        },
+    }
+}
+
+/// Serves `count` connections at a listener. A line for each goes to `faults`.
+fn serve_at<S: RowStore, E: Write>(
+    rt: &HostRuntime,
+    listener: Listener<'_>,
     count: u32,
     desk: &mut Desk<S>,
     faults: &mut E,
 ) -> Result<u8, Fault>
     ensures leads { (made : List Made) × (length made ≤ count) × OnOk result (length made ≡ count)
         × LeadsThrough S.Meaning made desk.old.store desk.new.store
-        × ReportsServing made (E.contents faults.old) (E.contents faults.new) }
+        × ((served : List ServedView) × (lost : ℕ) × Logs served made lost (E.contents faults.old) (E.contents faults.new)) }
     ensures status { IfOk result (λ status. status ≡ 0) }
     ensures err { IfErr result (λ fault. fault ≡ read_failed) }
 {
-    match TcpListener::bind(rt, address) {
-        Ok(listener) => {
-            let _ = report_place(&listener, faults);
-            match serve_on_within(rt.alloc(), rt, &listener, count, desk, faults) {
-                Ok(_) => Ok(DONE),
-                Err(fault) => Err(fault),
-            }
-        }
-        Err(_) => Err(FaultKind::Read.without_line()),
+    match serve_on_within(rt.alloc(), rt, listener, count, desk, faults) {
+        Ok(_) => Ok(DONE),
+        Err(fault) => Err(fault),
     }
 }

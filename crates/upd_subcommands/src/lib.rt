@@ -11,6 +11,7 @@ mod exit_status;
 mod explaining;
 mod listening;
 mod listing_file;
+mod local_socket;
 mod parts_command;
 mod queries;
 mod streams;

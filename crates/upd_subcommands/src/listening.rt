@@ -1,10 +1,12 @@
-//! The line of `serve` that says where it listens.
+//! The lines of a server that say where it listens, or why there is no socket.
 ghost use Rattle.std.specs.Prelude.{◌≡◌, IfSome};
 ghost use Rattle.std.specs.Fmt.InlineText.{inline_text};
 ghost use Rattle.std.specs.declared.net.socket_addr.SocketAddr.{SocketAddr};
-ghost use Rattle.upd_subcommands.specs.Listening.{ReportsPlace, listening_line};
+ghost use Rattle.upd_subcommands.specs.Listening.{ReportsPlace, listening_line, path_line};
+ghost use Rattle.upd_wire.specs.Fronts.{AppendsFront};
 
 use crate::streams::write_out;
+use std::alloc::Global;
 use std::fmt::{InlineText, Write};
 use std::io;
 use std::net::{SocketAddr, TcpListener};
@@ -45,5 +47,22 @@ fn line_of(address: SocketAddr) -> Option<InlineText<ROOM>>
     match writeln!(line, "upd: listening on {address}") {
         Ok(()) => Some(line),
         Err(_) => None,
+    }
+}
+
+/// Writes a line on a path in one write, and flushes.
+pub(crate) fn report_path<E: io::Write>(
+    alloc: Global,
+    what: &str,
+    path: &str,
+    why: &str,
+    faults: &mut E,
+) -> Result<(), Fault>
+    ensures { AppendsFront (E.contents faults.old) (E.contents faults.new) (path_line what.now path.now why.now) }
+{
+    let parts: [&str; 5] = ["upd: ", what, path, why, "\n"];
+    match parts.concat(alloc) {
+        Ok(line) => write_out(faults, line.as_bytes()),
+        Err(_) => Err(FaultKind::NoMemory.without_line()),
     }
 }

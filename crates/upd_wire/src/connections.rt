@@ -11,6 +11,8 @@ use crate::log_lines::{Served, write_line};
 use std::alloc::Global;
 use std::io::{ErrorKind, Read, Sink, Write};
 use std::net::{Shutdown, TcpListener, TcpStream};
+use std::os::unix::io::OwnedFd;
+use std::os::unix::net::UnixListener;
 use std::time::{Clock, Duration, Instant};
 use std::{io, thread};
 use upd_desk::Desk;
@@ -35,6 +37,29 @@ const MAX_FAILED_ACCEPTS: u32 = 100;
 /// How long a server with a clock waits before it tries to accept again, in milliseconds.
 const ACCEPT_PAUSE: u64 = 10;
 
+/// Where connections are accepted.
+#[derive(Clone, Copy)]
+pub enum Listener<'a> {
+    Tcp(&'a TcpListener),
+    Unix(&'a UnixListener),
+}
+
+impl Listener<'_> {
+    /// The next connection. Reads, writes and time limits are the same calls for each kind of socket.
+    fn accept(self) -> io::Result<TcpStream> {
+        match self {
+            Listener::Tcp(listener) => {
+                let (stream, _) = listener.accept()?;
+                Ok(stream)
+            }
+            Listener::Unix(listener) => {
+                let (stream, _) = listener.accept()?;
+                Ok(TcpStream::from(OwnedFd::from(stream)))
+            }
+        }
+    }
+}
+
 /// Serves `count` connections, one request each. A fault of one ends only that one. Read where no connection can be
 /// accepted.
 ///
@@ -51,6 +76,7 @@ pub fn serve_on<S: RowStore>(
         × LeadsThrough S.Meaning made desk.old.store desk.new.store }
     ensures err { IfErr result (λ fault. fault ≡ read_failed) }
 {
+    let listener = Listener::Tcp(listener);
     match serve_each::<HostRuntime, S, Sink>(alloc, None, listener, count, desk, &mut io::sink()) {
         Ok(_) => Ok(()),
         Err(fault) => Err(fault),
@@ -64,7 +90,7 @@ pub fn serve_on<S: RowStore>(
 pub fn serve_on_within<C: Clock, S: RowStore, W: Write>(
     alloc: Global,
     clock: &C,
-    listener: &TcpListener,
+    listener: Listener<'_>,
     count: u32,
     desk: &mut Desk<S>,
     log: &mut W,
@@ -82,7 +108,7 @@ pub fn serve_on_within<C: Clock, S: RowStore, W: Write>(
 fn serve_each<C: Clock, S: RowStore, W: Write>(
     alloc: Global,
     clock: Option<&C>,
-    listener: &TcpListener,
+    listener: Listener<'_>,
     count: u32,
     desk: &mut Desk<S>,
     log: &mut W,
@@ -119,17 +145,16 @@ fn log_connection<W: Write>(log: &mut W, served: &Served, lost: u32) -> u32
 }
 
 /// The next connection. With a clock, a failure may be for a passing reason.
-fn accept<C: Clock>(listener: &TcpListener, clock: Option<&C>) -> io::Result<TcpStream> {
+fn accept<C: Clock>(listener: Listener<'_>, clock: Option<&C>) -> io::Result<TcpStream> {
     if let Some(clock) = clock {
         for _ in 1..MAX_FAILED_ACCEPTS {
             match listener.accept() {
-                Ok((stream, _)) => return Ok(stream),
+                Ok(stream) => return Ok(stream),
                 Err(_) => thread::sleep(clock, Duration::from_millis(ACCEPT_PAUSE)),
             }
         }
     }
-    let (stream, _) = listener.accept()?;
-    Ok(stream)
+    listener.accept()
 }
 
 /// Serves a connection, which is closed then.

@@ -35,7 +35,7 @@ mod table;
 pub mod writing;
 
 pub use call::{DeskCall, Refusal};
-pub use connections::{serve_on, serve_on_within};
+pub use connections::{Listener, serve_on, serve_on_within};
 pub use digits::read_number;
 pub use frames::spool;
 pub use http_exchange::serve_one;

@@ -11,7 +11,7 @@ use std::test::Fail;
 use std::time::{Clock, Duration, Instant};
 use upd_testkit::check::{holds, same};
 use upd_text::{Fault, FaultKind};
-use upd_wire::{serve_on, serve_on_within};
+use upd_wire::{Listener, serve_on, serve_on_within};
 
 /// A client that has written this.
 fn client_after(rt: &HostRuntime, address: SocketAddr, sent: &[u8]) -> io::Result<TcpStream> {
@@ -81,7 +81,7 @@ fn are_served<C: Clock>(
     serve_on_within(
         rt.alloc(),
         clock,
-        listener,
+        Listener::Tcp(listener),
         count,
         &mut empty_desk(rt.alloc()),
         &mut io::sink(),
@@ -195,8 +195,9 @@ fn ends(
     clock: &Sleeping<'_>,
     wanted: (Result<(), Fault>, u128),
 ) -> Result<(), Fail> {
-    let mut log = io::sink();
-    let served = serve_on_within(alloc, clock, listener, 2, &mut empty_desk(alloc), &mut log);
+    let (mut desk, mut log) = (empty_desk(alloc), io::sink());
+    let listener = Listener::Tcp(listener);
+    let served = serve_on_within(alloc, clock, listener, 2, &mut desk, &mut log);
     let served = served.map(|_| ());
     same("the end, milliseconds", (served, clock.slept.get()), wanted)
 }
@@ -234,6 +235,7 @@ fn accepts_that_fail_for_a_while_end_nothing(rt: HostRuntime) -> Result<(), Fail
 fn seconds_served(rt: &HostRuntime, listener: &TcpListener) -> Result<u64, Fail> {
     let start = Instant::now(rt)?;
     let (mut desk, mut log) = (empty_desk(rt.alloc()), io::sink());
+    let listener = Listener::Tcp(listener);
     serve_on_within(rt.alloc(), rt, listener, 1, &mut desk, &mut log)?;
     Ok(start.elapsed(rt)?.as_secs())
 }
@@ -319,7 +321,8 @@ fn is_given_up(
     still: u64,
 ) -> Result<(), Fail> {
     let clock = Ticking::new(still, 30);
-    serve_on_within(alloc, &clock, &listener, 1, desk, &mut io::sink())?;
+    let listener = Listener::Tcp(&listener);
+    serve_on_within(alloc, &clock, listener, 1, desk, &mut io::sink())?;
     reads_nothing(alloc, client)
 }
 

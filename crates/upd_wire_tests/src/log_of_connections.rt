@@ -7,7 +7,7 @@ use std::io::{Read, Write};
 use std::test::Fail;
 use upd_testkit::check::{same, same_text};
 use upd_testkit::fake_streams::Narrow;
-use upd_wire::serve_on_within;
+use upd_wire::{Listener, serve_on_within};
 
 /// A desk serves a client that sends this. Returns the number of bytes of the answer, and of lines that are lost.
 fn served<W: Write>(
@@ -18,7 +18,7 @@ fn served<W: Write>(
 ) -> Result<(usize, u32), Fail> {
     let (listener, clock) = (listener(rt)?, Ticking::new(0, 0));
     let mut client = client_with(rt, listener.local_addr()?, sent.as_bytes())?;
-    let lost = serve_on_within(rt.alloc(), &clock, &listener, 1, desk, log)?;
+    let lost = serve_on_within(rt.alloc(), &clock, Listener::Tcp(&listener), 1, desk, log)?;
     let mut answer = Vec::new(rt.alloc());
     client.read_to_end(&mut answer)?;
     Ok((answer.len(), lost))

@@ -1,4 +1,4 @@
--- A command line of `serve` that is read has a COUNT within its range.
+-- A command line that serves, and is read, has a COUNT within its range.
 use Rattle.std.proofs.Common.{◌≡◌, ◌∷◌, ◌++◌, ◌&&◌, ◌||◌, ℕ, Bool, true, false, not, if◌then◌else◌, List, [], codes, drop, find, get_or, length, take}
 use Rattle.std.proofs.Common.{true≢false, Option, Some, None, IfSome, option_map, unwrap_or, refl, sym, subst, ap, ◌∙◌}
 use Rattle.std.specs.List.{list_all}
@@ -35,6 +35,10 @@ serve_shape = get_or (built upd_app).subs 5 (new_shape [])
 abbrev serve_rule : ℕ → Rule
 serve_rule i = get_or serve_shape.rules i (new_rule [])
 
+-- `serve-local` as it is built: it has PATH in place of ADDRESS
+abbrev local_shape : Shape
+local_shape = get_or (built upd_app).subs 6 (new_shape [])
+
 other_keeps : (a : Rule) → action_of a ≡ Set → bytes_eq a.id (codes "COUNT") ≡ false → KeepsPassing (codes "COUNT") IsInRange a
 other_keeps a set other =
     set_keeps (codes "COUNT") IsInRange a set
@@ -57,6 +61,11 @@ count_keeps = set_keeps (codes "COUNT") IsInRange (serve_rule 2) refl first
 all_keep : AllKeep (codes "COUNT") IsInRange serve_shape.rules
 all_keep = (other_keeps (serve_rule 0) refl refl, (other_keeps (serve_rule 1) refl refl, (count_keeps, ((λ again values rows none p. p), tt))))
 
+local_keep : AllKeep (codes "COUNT") IsInRange local_shape.rules
+local_keep =
+    let path = get_or local_shape.rules 1 (new_rule []) in
+    (other_keeps (serve_rule 0) refl refl, (other_keeps path refl refl, (count_keeps, ((λ again values rows none p. p), tt))))
+
 third : (a b c : Bool) → (if (not a || (not b || (not c || false))) then MissingRequiredArgument ∷ [] else []) ≡ [] → c ≡ true
 third true true true none = refl
 third true true false none = absurd (cc)
@@ -66,9 +75,16 @@ third false b c none = absurd (cc)
 asks_count : (rows : List Row) → check_fault serve_shape rows false ≡ [] → is_given (codes "COUNT") rows ≡ true
 asks_count rows none = third (is_given (codes "FILE") rows) (is_given (codes "ADDRESS") rows) (is_given (codes "COUNT") rows) none
 
--- a command of this name that takes words has a COUNT within its range
+local_asks_count : (rows : List Row) → check_fault local_shape rows false ≡ [] → is_given (codes "COUNT") rows ≡ true
+local_asks_count rows none = third (is_given (codes "FILE") rows) (is_given (codes "PATH") rows) (is_given (codes "COUNT") rows) none
+
+-- the name of a command that serves
+abbrev serves : Text → Bool
+serves name = bytes_eq name (codes "serve") || bytes_eq name (codes "serve-local")
+
+-- a command of such a name that takes words has a COUNT within its range
 abbrev Counts : Shape → Type 0
-Counts s = bytes_eq s.name (codes "serve") ≡ true → (words : List Text) → level_fault s [] nothing_held words false [] ≡ []
+Counts s = serves s.name ≡ true → (words : List Text) → level_fault s [] nothing_held words false [] ≡ []
     → (v : Text) × (first_of (codes "COUNT") (rows_after s.rules [] words) ≡ Some v) × IsInRange v
 
 abbrev AllCount : List Shape → Type 0
@@ -82,19 +98,22 @@ joined (x ∷ xs) ys p q = (p.0, joined xs ys p.1 q)
 serve_counts : Counts serve_shape
 serve_counts same = level_passes (codes "COUNT") IsInRange serve_shape all_keep (refl, (refl, (refl, (refl, tt)))) asks_count
 
-others_count : (shapes : List Shape) → list_all (λ s. not (bytes_eq s.name (codes "serve"))) shapes ≡ true → AllCount shapes
+local_counts : Counts local_shape
+local_counts same = level_passes (codes "COUNT") IsInRange local_shape local_keep (refl, (refl, (refl, (refl, tt)))) local_asks_count
+
+others_count : (shapes : List Shape) → list_all (λ s. not (serves s.name)) shapes ≡ true → AllCount shapes
 others_count [] none = tt
-others_count (s ∷ shapes) none = of (bytes_eq s.name (codes "serve")) refl (others_count shapes) none
+others_count (s ∷ shapes) none = of (serves s.name) refl (others_count shapes) none
   where
-    of : (b : Bool) → bytes_eq s.name (codes "serve") ≡ b → (list_all (λ s. not (bytes_eq s.name (codes "serve"))) shapes ≡ true → AllCount shapes)
-        → (not b && list_all (λ s. not (bytes_eq s.name (codes "serve"))) shapes) ≡ true → AllCount (s ∷ shapes)
+    of : (b : Bool) → serves s.name ≡ b → (list_all (λ s. not (serves s.name)) shapes ≡ true → AllCount shapes)
+        → (not b && list_all (λ s. not (serves s.name)) shapes) ≡ true → AllCount (s ∷ shapes)
     of true is later e = absurd (true≢false (sym e))
     of false is later e = ((λ same. absurd (true≢false (sym same ∙ is))), later e)
 
 all_count : AllCount (built upd_app).subs
 all_count =
     let subs = (built upd_app).subs in
-    joined (take 5 subs) (drop 5 subs) (others_count (take 5 subs) refl) (serve_counts, others_count (drop 6 subs) refl)
+    joined (take 5 subs) (drop 5 subs) (others_count (take 5 subs) refl) (serve_counts, (local_counts, others_count (drop 7 subs) refl))
 
 found_counts : (test : Shape → Bool) (shapes : List Shape) → AllCount shapes → IfSome (find test shapes) Counts
 found_counts test [] all = tt
@@ -117,9 +136,10 @@ entered_counts (Some x) none =
     of : (o : Option Shape) → IfSome o Counts → option_map_or (λ s. level_fault s [] nothing_held x.1 false []) o [] ≡ []
         → IfSome (option_map (λ s. rows_at s x.1) o) HasCount
     of None counts e = tt
-    of (Some s) counts e = λ same.
-        let (v, is, ok) = counts (ap (λ t. bytes_eq t (codes "serve")) same) x.1 e in
-        subst (λ o. SpellsCount (unwrap_or o [])) (sym is) (spells_count v ok)
+    of (Some s) counts e =
+        let has : serves s.name ≡ true → SpellsCount (unwrap_or (first_of (codes "COUNT") (rows_after s.rules [] x.1)) []) =
+        λ yes. let (v, is, ok) = counts yes x.1 e in subst (λ o. SpellsCount (unwrap_or o [])) (sym is) (spells_count v ok) in
+        ((λ same. has (ap serves same)), (λ same. has (ap serves same)))
 
 pub read_counts : (words : List Text) → word_faults words ≡ [] → IfSome (subcommand_of upd_app words) HasCount
 read_counts words none =

@@ -18,6 +18,8 @@ use Rattle.upd_words.specs.declared.words.Request.TheVariants.{Trial, Init, Libr
 use Rattle.upd_words.specs.declared.words.Request.TheVariants.{NoAddress}
 use Rattle.upd_words.specs.declared.words.Command.{Command}
 use Rattle.upd_words.specs.declared.words.Command.TheVariants.{Run, Settle, Spool, Serve, Correct, CorrectAt, CorrectParts, Try, Ask}
+use Rattle.upd_words.specs.declared.words.Endpoint.{Endpoint}
+use Rattle.upd_words.specs.declared.words.Endpoint.TheVariants.{Address, Path}
 use Rattle.upd_words.specs.declared.querying.Query.{Query}
 use Rattle.upd_words.specs.declared.querying.Query.TheVariants.{Compile, Deck, Card, Idents, Yanks, View}
 use Rattle.upd_words.specs.declared.querying.View.TheVariants.{Blame, Ident, Page, Text as PlainText, TextAt, Source}
@@ -47,6 +49,7 @@ upd_commands =
     ∷ (codes "settle", word_of (codes "FILE") ∷ word_of (codes "SITE") ∷ word_of (codes "NUMBER") ∷ [])
     ∷ (codes "spool", word_of (codes "FILE") ∷ [])
     ∷ (codes "serve", word_of (codes "FILE") ∷ word_of (codes "ADDRESS") ∷ (codes "COUNT", Unsigned 1 1000000) ∷ [])
+    ∷ (codes "serve-local", word_of (codes "FILE") ∷ word_of (codes "PATH") ∷ (codes "COUNT", Unsigned 1 1000000) ∷ [])
     ∷ (codes "compile", word_of (codes "FILE") ∷ [])
     ∷ (codes "list", word_of (codes "FILE") ∷ word_of (codes "DECK") ∷ [])
     ∷ (codes "history", word_of (codes "FILE") ∷ word_of (codes "CARD") ∷ [])
@@ -84,13 +87,13 @@ abbrev pub IsOther : Text → List Text → Type 0
 IsOther name [] = Unit {0}
 IsOther name (other ∷ others) = (name ≢ other) × IsOther name others
 
--- the commands that do not use the desk of a library, and `serve`
+-- the commands that do not use the desk of a library, and those that serve
 abbrev pub file_commands : List Text
 file_commands =
-    codes "trial" ∷ codes "init" ∷ codes "serve" ∷ codes "runs" ∷ codes "sites" ∷ codes "backup" ∷ codes "examine" ∷ codes "replay" ∷ codes "migrate"
-    ∷ codes "explain" ∷ []
+    codes "trial" ∷ codes "init" ∷ codes "serve" ∷ codes "serve-local" ∷ codes "runs" ∷ codes "sites" ∷ codes "backup" ∷ codes "examine"
+    ∷ codes "replay" ∷ codes "migrate" ∷ codes "explain" ∷ []
 
--- those that use it for more than a text about the library, but for `serve`
+-- those that use it for more than a text about the library, but for those that serve
 abbrev pub desk_commands : List Text
 desk_commands = codes "run" ∷ codes "settle" ∷ codes "spool" ∷ codes "correct" ∷ codes "correct-at" ∷ codes "correct-parts" ∷ codes "try" ∷ []
 
@@ -129,9 +132,10 @@ IsCount word n = IsNumeral 10 (without_leading_plus word) × (digits_value 10 (w
 abbrev pub SpellsCount : Text → Type 0
 SpellsCount word = (n : ℕ) × IsCount word n
 
--- a command `serve` has a number of connections
+-- a command that serves has a number of connections
 abbrev pub HasCount : Text × List Row → Type 0
-HasCount (name, rows) = name ≡ codes "serve" → SpellsCount (operand_in (codes "COUNT") rows)
+HasCount (name, rows) =
+    (name ≡ codes "serve" → SpellsCount (operand_in (codes "COUNT") rows)) × (name ≡ codes "serve-local" → SpellsCount (operand_in (codes "COUNT") rows))
 
 -- the command that asks this of a library
 abbrev pub query_name : Query → Text
@@ -159,12 +163,22 @@ HasQueried rows (View (TextAt name since)) =
 HasQueried rows (View (Source name)) = name_read (operand_in (codes "DECK") rows) ≡ Ok name
 HasQueried rows _ = Unit {0}
 
+-- the command that serves at such an endpoint
+abbrev pub serving_name : Endpoint → Text
+serving_name (Address address) = codes "serve"
+serving_name (Path path) = codes "serve-local"
+
+-- the endpoint is the operand of that command
+abbrev pub HasEndpoint : List Row → Endpoint → Type 0
+HasEndpoint rows (Address address) = IsSocketText (operand_in (codes "ADDRESS") rows) address
+HasEndpoint rows (Path path) = path.now ≡ operand_in (codes "PATH") rows
+
 -- the command's name, and its operands beside FILE
 abbrev pub command_name : Command → Text
 command_name (Run site number mode) = codes "run"
 command_name (Settle site number) = codes "settle"
 command_name Spool = codes "spool"
-command_name (Serve address count) = codes "serve"
+command_name (Serve endpoint count) = serving_name endpoint
 command_name (Correct set) = codes "correct"
 command_name (CorrectAt set since) = codes "correct-at"
 command_name (CorrectParts set site number mode) = codes "correct-parts"
@@ -177,8 +191,7 @@ HasOperands rows (Run site number mode) = (site.now ≡ operand_in (codes "SITE"
 HasOperands rows (Settle site number) =
     (site.now ≡ operand_in (codes "SITE") rows) × (number_read (operand_in (codes "NUMBER") rows) ≡ Ok number)
 HasOperands rows Spool = Unit {0}
-HasOperands rows (Serve address count) =
-    IsSocketText (operand_in (codes "ADDRESS") rows) address × IsCount (operand_in (codes "COUNT") rows) count
+HasOperands rows (Serve endpoint count) = HasEndpoint rows endpoint × IsCount (operand_in (codes "COUNT") rows) count
 HasOperands rows (Correct set) = set.now ≡ operand_in (codes "SET") rows
 HasOperands rows (CorrectAt set since) = (set.now ≡ operand_in (codes "SET") rows) × (name_read (operand_in (codes "SINCE") rows) ≡ Ok since)
 HasOperands rows (CorrectParts set site number mode) = (set.now ≡ operand_in (codes "SET") rows) × (site.now ≡ operand_in (codes "SITE") rows)

@@ -11,13 +11,18 @@ use std::alloc::{AllocError, Global};
 /// The number of connections that a command may serve.
 const COUNT_RANGE: ValueParser<'static> = ValueParser::Unsigned(1, 1_000_000);
 
-/// The program with its first six commands.
+/// The program with its first seven commands.
 pub(crate) fn second_commands<'a>(alloc: Global) -> Result<Command<'a>, AllocError>
-    ensures { IfOk result (λ c. app_of c ≡ app_with (take 6 upd_commands)) }
+    ensures { IfOk result (λ c. app_of c ≡ app_with (take 7 upd_commands)) }
 {
     const ADDRESS: Operand = (
         "ADDRESS",
         "an IP address and a port, as 127.0.0.1:8080",
+        ValueParser::String,
+    );
+    const PATH: Operand = (
+        "PATH",
+        "where the socket is made, at most 100 bytes",
         ValueParser::String,
     );
     const COUNT: Operand = (
@@ -28,7 +33,8 @@ pub(crate) fn second_commands<'a>(alloc: Global) -> Result<Command<'a>, AllocErr
     let app = first_commands(alloc)?;
     let app = with_command(app, alloc, "settle", SETTLE, &[FILE, SITE, NUMBER])?;
     let app = with_command(app, alloc, "spool", SPOOL, &[FILE])?;
-    with_command(app, alloc, "serve", SERVE, &[FILE, ADDRESS, COUNT])
+    let app = with_command(app, alloc, "serve", SERVE, &[FILE, ADDRESS, COUNT])?;
+    with_command(app, alloc, "serve-local", SERVE_LOCAL, &[FILE, PATH, COUNT])
 }
 
 /// The program with its first three commands.
@@ -126,4 +132,19 @@ times in a row. The fault is one line on standard error.
 Example, after `upd init library.db`:
   upd serve library.db 127.0.0.1:8080 1 &
   curl --silent --retry 3 --retry-connrefused http://127.0.0.1:8080/idents",
+};
+
+const SERVE_LOCAL: Text = Text {
+    about: "Does what `serve` does, on a Unix socket that only its owner can use",
+    more: "\
+Reads, writes and ends as `serve` does, but listens on a Unix socket of mode 0600 at PATH: no other
+user but root can connect. PATH has at most 100 bytes. A socket there that nobody serves is replaced;
+anything else there is left as it is. The socket stays when the command has ended.
+
+Exit status: 0 done; 2 the command line can't be read, or COUNT is not valid; 3 as of `serve`, or
+the socket can't be made: a line on standard error says why, before the one of the fault.
+
+Example, after `upd init library.db`:
+  upd serve-local library.db desk.socket 1 & sleep 1
+  curl --silent --unix-socket desk.socket http://desk/idents",
 };

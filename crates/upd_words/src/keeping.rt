@@ -9,9 +9,9 @@ use clap::Command;
 use clap::builder::ValueParser;
 use std::alloc::{AllocError, Global};
 
-/// The program with its first twenty-four commands.
+/// The program with its first twenty-five commands.
 pub(crate) fn seventh_commands<'a>(alloc: Global) -> Result<Command<'a>, AllocError>
-    ensures { IfOk result (λ c. app_of c ≡ app_with (take 24 upd_commands)) }
+    ensures { IfOk result (λ c. app_of c ≡ app_with (take 25 upd_commands)) }
 {
     const COPY: Operand = (
         "COPY",
@@ -24,9 +24,9 @@ pub(crate) fn seventh_commands<'a>(alloc: Global) -> Result<Command<'a>, AllocEr
     with_command(app, alloc, "backup", BACKUP, &[FILE, COPY])
 }
 
-/// The program with its first twenty-one commands.
+/// The program with its first twenty-two commands.
 fn sixth_commands<'a>(alloc: Global) -> Result<Command<'a>, AllocError>
-    ensures { IfOk result (λ c. app_of c ≡ app_with (take 21 upd_commands)) }
+    ensures { IfOk result (λ c. app_of c ≡ app_with (take 22 upd_commands)) }
 {
     const SET: Operand = (
         "SET",

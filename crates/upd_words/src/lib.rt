@@ -12,4 +12,6 @@ mod querying;
 mod words;
 
 pub use querying::{Query, View};
-pub use words::{Command, Request, read_words, requests_have_names, serve_is_read, trial_is_read};
+pub use words::{
+    Command, Endpoint, Request, read_words, requests_have_names, serve_is_read, trial_is_read,
+};

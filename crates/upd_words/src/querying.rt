@@ -66,9 +66,9 @@ pub(crate) fn read_query(command: &str, operands: &ArgMatches<'_>) -> Result<Que
     }
 }
 
-/// The program with its first sixteen commands.
+/// The program with its first seventeen commands.
 pub(crate) fn fifth_commands<'a>(alloc: Global) -> Result<Command<'a>, AllocError>
-    ensures { IfOk result (λ c. app_of c ≡ app_with (take 16 upd_commands)) }
+    ensures { IfOk result (λ c. app_of c ≡ app_with (take 17 upd_commands)) }
 {
     let app = fourth_commands(alloc)?;
     let app = with_command(app, alloc, "yanks", YANKS, &[FILE])?;
@@ -77,9 +77,9 @@ pub(crate) fn fifth_commands<'a>(alloc: Global) -> Result<Command<'a>, AllocErro
     with_command(app, alloc, "text-at", TEXT_AT, &[FILE, DECK, SINCE])
 }
 
-/// The program with its first twelve commands.
+/// The program with its first thirteen commands.
 fn fourth_commands<'a>(alloc: Global) -> Result<Command<'a>, AllocError>
-    ensures { IfOk result (λ c. app_of c ≡ app_with (take 12 upd_commands)) }
+    ensures { IfOk result (λ c. app_of c ≡ app_with (take 13 upd_commands)) }
 {
     const IDENT: Operand = (
         "IDENT",
@@ -92,9 +92,9 @@ fn fourth_commands<'a>(alloc: Global) -> Result<Command<'a>, AllocError>
     with_command(app, alloc, "idents", IDENTS, &[FILE])
 }
 
-/// The program with its first nine commands.
+/// The program with its first ten commands.
 fn third_commands<'a>(alloc: Global) -> Result<Command<'a>, AllocError>
-    ensures { IfOk result (λ c. app_of c ≡ app_with (take 9 upd_commands)) }
+    ensures { IfOk result (λ c. app_of c ≡ app_with (take 10 upd_commands)) }
 {
     const CARD: Operand = ("CARD", "a card, as A.2", ValueParser::String);
     const ANY_DECK: Operand = (

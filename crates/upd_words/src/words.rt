@@ -2,9 +2,9 @@
 ghost use Rattle.std.specs.Prelude.{List, [], ◌∷◌, ◌≡◌, IfErr, IfOk, IfSome, IsSomeAnd, codes, map, true, ◌≢◌};
 ghost use Rattle.clap.specs.Words.{Text, found_of, has_subcommand, kind_of, rows_of, subcommand_rows_of};
 ghost use Rattle.clap.specs.declared.error.kind.ErrorKind.TheVariants.{OutOfMemory, ValueValidation};
-ghost use Rattle.upd_words.specs.Words.{HasCount, HasOperands, IsAskedFor, IsOneOf, IsOther, IsPlain, IsRead, IsRequest};
+ghost use Rattle.upd_words.specs.Words.{HasCount, HasEndpoint, HasOperands, IsAskedFor, IsOneOf, IsOther, IsPlain, IsRead, IsRequest};
 ghost use Rattle.upd_words.specs.Words.{IsUnasked, IsUnreadRequest, SpellsCount, command_name, command_word, file_commands};
-ghost use Rattle.upd_words.specs.Words.{no_memory, operand_in, operand_word, request_name, upd_commands, word_faults};
+ghost use Rattle.upd_words.specs.Words.{no_memory, operand_in, operand_word, request_name, serving_name, upd_commands, word_faults};
 ghost use Rattle.upd_words.specs.declared.words.Request.{Request as RequestView};
 ghost use Rattle.upd_words.specs.declared.words.Request.TheVariants.{Trial};
 
@@ -49,6 +49,15 @@ pub enum Request<'a> {
     NoAddress(&'a str),
 }
 
+/// Where connections are served.
+#[derive(Drop)]
+pub enum Endpoint<'a> {
+    /// `serve`: an IP address and a port.
+    Address(SocketAddr),
+    /// `serve-local`: the path of a socket on this machine.
+    Path(&'a str),
+}
+
 /// What a command does at the desk of a library.
 #[derive(Drop)]
 pub enum Command<'a> {
@@ -63,7 +72,7 @@ pub enum Command<'a> {
     },
     Spool,
     Serve {
-        address: SocketAddr,
+        endpoint: Endpoint<'a>,
         count: u32,
     },
     Correct {
@@ -119,6 +128,7 @@ fn read_command<'a>(name: &str, operands: &ArgMatches<'a>) -> Result<Request<'a>
         "trial" => Ok(Request::Trial(word(operands, "MODE"))),
         "init" => Ok(Request::Init(word(operands, "FILE"))),
         "serve" => Ok(read_serving(operands)),
+        "serve-local" => Ok(serving(operands, Endpoint::Path(word(operands, "PATH")))),
         "runs" => Ok(Request::Runs(word(operands, "FILE"))),
         "sites" => Ok(Request::Sites(word(operands, "FILE"))),
         "backup" => Ok(Request::Backup {
@@ -146,18 +156,27 @@ fn read_serving<'a>(operands: &ArgMatches<'a>) -> Request<'a>
 {
     let address = word(operands, "ADDRESS");
     match read_address(address) {
-        Some(place) => Request::Library {
-            file: word(operands, "FILE"),
-            command: Command::Serve {
-                address: place,
-                count: count(operands),
-            },
-        },
+        Some(place) => serving(operands, Endpoint::Address(place)),
         None => Request::NoAddress(address),
     }
 }
 
-/// What a command does at the desk of a library, but for `serve`.
+/// The request to serve at an endpoint.
+fn serving<'a>(operands: &ArgMatches<'a>, endpoint: Endpoint<'a>) -> Request<'a>
+    requires { HasEndpoint (rows_of (found_of operands.now)) endpoint }
+    ensures { SpellsCount (operand_in (codes "COUNT") (rows_of (found_of operands.now)))
+        → IsRequest (serving_name endpoint.entry, rows_of (found_of operands.now)) result }
+{
+    Request::Library {
+        file: word(operands, "FILE"),
+        command: Command::Serve {
+            endpoint,
+            count: count(operands),
+        },
+    }
+}
+
+/// What a command does at the desk of a library, but for those that serve.
 fn read_desk_command<'a>(name: &str, operands: &ArgMatches<'a>) -> Result<Command<'a>, Fault>
     requires known { IsOneOf name.now upd_commands }
     requires other { IsOther name.now file_commands }

@@ -1,12 +1,28 @@
-use Rattle.upd_subcommands.proofs.Common.{[], Err, inr, refl, arith, Appends-nil}
+use Rattle.upd_subcommands.proofs.Common.{[], Err, inl, inr, refl, sym, subst, arith, Appends-nil}
+use Rattle.upd_words.specs.declared.words.Endpoint.{Endpoint}
+use Rattle.upd_subcommands.specs.DeskCommands.{EndsServing}
 use Rattle.upd_subcommands.proofs.desk_command.serve.Goals as goal
 
-pub returns-in-Ok-serve_on_within-clause-leads : goal.returns-in-Ok-serve_on_within-clause-leads
-returns-in-Ok-serve_on_within-clause-leads g c =
-    let (made, few, all, leads, (served, lost, is, logs)) = c.in-Ok-serve_on_within.ensures.leads in
-    (made, few, all, leads, (_, _, c.report_place.ensures, (served, lost, logs)))
+pub returns-in-Err : goal.returns-in-Err
+returns-in-Err g c =
+    let faults = g.E.Write.contents c.args.faults.now in
+    let none = Appends-nil faults in
+    let Ends : Endpoint → Type 0 =
+    λ endpoint. EndsServing g.S.Meaning endpoint c.args.count (Err c.without_line.result) c.args.desk.now.store c.args.desk.now.store faults faults in
+    subst Ends (sym c.in-Address.is) (record {
+      leads = ([], omega arith, tt, refl, inl (faults, (Err c.without_line.result, inr none), ([], 0, (refl, none))));
+      status = tt;
+      err = c.without_line.ensures;
+    })
 
-pub returns-clause-leads : goal.returns-clause-leads
-returns-clause-leads g c =
-    let none = Appends-nil (g.E.Write.contents c.args.faults.now) in
-    ([], omega arith, tt, refl, (Err c.without_line.result, _, inr none, ([], 0, (refl, none))))
+pub returns-in-Err-bind_local : goal.returns-in-Err-bind_local
+returns-in-Err-bind_local g c =
+    let fault = c.without_line-in-Err-bind_local.result in
+    let Ends : Endpoint → Type 0 =
+    λ endpoint. EndsServing g.S.Meaning endpoint c.args.count (Err fault) c.args.desk.now.store c.args.desk.now.store
+    (g.E.Write.contents c.args.faults.now) (g.E.Write.contents c.report_path-in-Err-bind_local.new.faults) in
+    subst Ends (sym c.in-Path.is) (record {
+      leads = ([], omega arith, tt, refl, inr (refl, (c.in-Err-bind_local.why.now, c.report_path-in-Err-bind_local.ensures)));
+      status = tt;
+      err = c.without_line-in-Err-bind_local.ensures;
+    })
