@@ -150,13 +150,3 @@ card_taken l set earlier lines line text front decks new_decks old new d e is wa
       none = λ none. subst (HasNoProblem l set []) (sym larger_now)
           (no_problem_grown l set [] front d larger.lines (subst (HasNoProblem l set []) was (are.none (sym same ∙ none))));
     }
-
--- nothing is read yet
-pub read_nothing : (l : LibraryView) (set : List ℕ) (earlier : List Refusal) → AreReadFrom l set earlier [] [] earlier
-read_nothing l set earlier = record {
-  names = refl;
-  refused = sym (append-nil earlier);
-  each = tt;
-  given = λ none. tt;
-  none = λ none. tt;
-}

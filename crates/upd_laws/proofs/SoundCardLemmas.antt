@@ -6,9 +6,8 @@ use Rattle.upd_laws.proofs.Common.{without_idents, deck_without, decks_without, 
 use Rattle.upd_laws.proofs.Common.{at_first, CardView, DeckView, LibraryView, all_decks, cards_of, is_deck, with_cards, is_held, stands, BeginsOn}
 use Rattle.upd_laws.proofs.Common.{BeginsWithItsOwn, HasNoTargets, IsOfHeld, key_of, all_cards, all_front, all_back, flat}
 use Rattle.std.proofs.lemmas.List.{take-append-drop}
-use Rattle.upd_laws.proofs.SoundListLemmas.{same_number, is_same_number, other_number, all_append, all_each, all_flat, HasMore}
-use Rattle.upd_laws.proofs.SoundListLemmas.{more_front, IsPart, none, fewer, kept, part_append, part_without, zip_same, at_first_all, at_first_any}
-use Rattle.upd_laws.proofs.SoundListLemmas.{at_first_find, at_first_more, at_first_zip}
+use Rattle.upd_laws.proofs.SoundListLemmas.{same_number, is_same_number, other_number, all_append, all_each, all_flat, HasMore, more_front, IsPart, none, fewer}
+use Rattle.upd_laws.proofs.SoundListLemmas.{kept, part_append, part_without, zip_same, at_first_all, at_first_any, at_first_find, at_first_more, at_first_zip}
 use Rattle.upd_laws.proofs.SoundIdentLemmas.{held_still}
 pub use Rattle.upd_apply.proofs.DirectoryLemmas.{idents_with}
 

@@ -12,10 +12,9 @@ use Rattle.upd_laws.proofs.SoundListLemmas.{rising_end, any_front, any_last, mor
 use Rattle.upd_laws.proofs.SoundListLemmas.{zip_all, zip_part, at_first_all, at_first_map, at_first_part, find_passes}
 use Rattle.upd_laws.proofs.SoundIdentLemmas.{ages_end, ages_unheld, held_within, held_more, held_deck_more, held_deck_last, held_deck_held, held_deck_end}
 use Rattle.upd_laws.proofs.SoundIdentLemmas.{held_deck_was, held_deck_still, names_end, names_unheld, unnamed_end, unnamed_still}
-use Rattle.upd_laws.proofs.SoundCardLemmas.{changed, decks_with, standing_by_ages, standing_still, insert_more, more_with_card, more_with_yank}
-use Rattle.upd_laws.proofs.SoundCardLemmas.{more_with_deck, IsEntered, entered_some, zip_with_entries, all_without, all_purged, all_purged_in, keys_without}
-use Rattle.upd_laws.proofs.SoundCardLemmas.{keys_decks, ages_decks, all_decks_without, held_without, begins_without, begins_entered, plain_without}
-use Rattle.upd_laws.proofs.SoundCardLemmas.{first_without}
+use Rattle.upd_laws.proofs.SoundCardLemmas.{changed, decks_with, standing_by_ages, standing_still, insert_more, more_with_card, more_with_yank, more_with_deck}
+use Rattle.upd_laws.proofs.SoundCardLemmas.{IsEntered, entered_some, zip_with_entries, all_without, all_purged, all_purged_in, keys_without, keys_decks}
+use Rattle.upd_laws.proofs.SoundCardLemmas.{ages_decks, all_decks_without, held_without, begins_without, begins_entered, plain_without, first_without}
 use Rattle.upd_laws.proofs.SoundYankLemmas.{aged_end, same_ident, same_number_of, same_targets, aged_entered, aged_without, AreYanked}
 
 -- no card is of an ident that isn't in the directory

@@ -4,9 +4,8 @@ use Rattle.upd_laws.proofs.Common.{subst, arith, or_cases, or_left, or_right, Op
 use Rattle.upd_laws.proofs.Common.{Ident, unheld, held_named, is_deck_kind, AreApart, AreAgedFrom, is_held, is_held_deck}
 use Rattle.std.proofs.lemmas.List.Elements.{filter-append}
 use Rattle.std.proofs.lemmas.Slice.Eq.{bytes_eq-Decides}
-use Rattle.upd_laws.proofs.SoundListLemmas.{and_left, and_right, both, same_number, is_same_number, apart_end, all_filter, all_map}
-use Rattle.upd_laws.proofs.SoundListLemmas.{all_weaker, IsPart, none, fewer, kept, any_end, any_front, any_last, any_mapped, any_weaker, find_none_end}
-use Rattle.upd_laws.proofs.SoundListLemmas.{find_none_mapped}
+use Rattle.upd_laws.proofs.SoundListLemmas.{and_left, and_right, both, same_number, is_same_number, apart_end, all_filter, all_map, all_weaker, IsPart, none}
+use Rattle.upd_laws.proofs.SoundListLemmas.{fewer, kept, any_end, any_front, any_last, any_mapped, any_weaker, find_none_end, find_none_mapped}
 
 -- ---- serials
 

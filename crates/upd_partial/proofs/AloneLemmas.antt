@@ -1,8 +1,7 @@
 -- The status update of a part, taken as a library of its own.
-use Rattle.upd_partial.proofs.Common.{◌≡◌, ℕ, Bool, false, List, ◌++◌, Some, Ok, inr, refl, sym, ap, ◌∙◌, filter-append, ◌==◌, filter, AllByRecursion}
-use Rattle.upd_partial.proofs.Common.{CardRef, CountedCardView, Place, LibraryView, place_of, part, IsSound, live_count, touched, LineView, Reached, applied}
-use Rattle.upd_partial.proofs.Common.{all_both, all_weaker, affected, is_touched, is_due, AreIdle, DoesWithout, NamesNone, cards_of_item, left_out}
-use Rattle.upd_partial.proofs.Common.{reached_in_part}
+use Rattle.upd_partial.proofs.Common.{◌≡◌, ℕ, Bool, false, List, ◌++◌, Some, Ok, inr, refl, sym, ap, ◌∙◌, filter-append, ◌==◌, filter, AllByRecursion, CardRef}
+use Rattle.upd_partial.proofs.Common.{CountedCardView, Place, LibraryView, place_of, part, IsSound, live_count, touched, LineView, Reached, applied, all_both}
+use Rattle.upd_partial.proofs.Common.{all_weaker, affected, is_touched, is_due, AreIdle, DoesWithout, NamesNone, cards_of_item, left_out, reached_in_part}
 use Rattle.upd_core.specs.Counted.{others_of, yanks_of}
 use Rattle.upd_yank.specs.Enough.{IsEnough}
 use Rattle.upd_yank.proofs.EnoughLemmas.{part_of_none, sees}

@@ -1,7 +1,6 @@
 -- A part of a library lists what it has as the whole library does.
-use Rattle.upd_partial.proofs.Common.{◌≡◌, ℕ, Bool, true, false, if◌then◌else◌, List, ◌++◌, Option, Some, None, Result, Ok, refl, ap, ◌∙◌, slice_get}
-use Rattle.upd_partial.proofs.Common.{flat_map, bytes_eq, CardRef, Fault, ◌>>=◌, at_line, Place, LibraryView, card_in, cards_of, place_of, part, IsSound}
-use Rattle.upd_partial.proofs.Common.{live_targets}
+use Rattle.upd_partial.proofs.Common.{◌≡◌, ℕ, Bool, true, false, if◌then◌else◌, List, ◌++◌, Option, Some, None, Result, Ok, refl, ap, ◌∙◌, slice_get, flat_map}
+use Rattle.upd_partial.proofs.Common.{bytes_eq, CardRef, Fault, ◌>>=◌, at_line, Place, LibraryView, card_in, cards_of, place_of, part, IsSound, live_targets}
 use Rattle.upd_text.specs.declared.fault.FaultKind.TheVariants.{CardUnknown, DeckUnknown}
 use Rattle.upd_text.specs.Names.{yank_name}
 use Rattle.upd_text.specs.Outcome.{need}
