@@ -11,7 +11,7 @@ fn add_frame(spool: &mut String, number: u32, run: &str) -> Result<(), Fail> {
 }
 
 /// A run that introduces a deck of 2,000 cards.
-fn add_deck(spool: &mut String, number: u32) -> Result<(), Fail> {
+pub fn add_deck(spool: &mut String, number: u32) -> Result<(), Fail> {
     let alloc = *spool.allocator();
     let lines = "X\n".repeat(alloc, 1999)?;
     let run = format!(in alloc; "*DECK B{number}\n{}", lines.as_str())?;
@@ -30,7 +30,7 @@ fn purged_decks(alloc: Global) -> Result<String, Fail> {
 }
 
 /// All frames of a spool are answered.
-fn is_sent(rt: &HostRuntime, file: &str, spool: &str) -> Result<(), Fail> {
+pub fn is_sent(rt: &HostRuntime, file: &str, spool: &str) -> Result<(), Fail> {
     let found = ask(rt, &["spool", file], &mut spool.as_bytes())?;
     same("the status", found.status, 0)
 }

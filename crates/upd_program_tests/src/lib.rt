@@ -16,6 +16,8 @@ mod file_changes;
 #[cfg(test)]
 mod file_sessions;
 #[cfg(test)]
+mod great_sizes;
+#[cfg(test)]
 mod kept_rows;
 #[cfg(test)]
 mod large_purges;

@@ -115,6 +115,7 @@ fn a_file_that_is_neither_is_refused_at_its_line(rt: HostRuntime) -> Result<(), 
     for (text, line) in NEITHER {
         is_neither(&rt, &file, text, line)?;
     }
+    is_neither(&rt, &file, &"\n".repeat(rt.alloc(), 5_000_025)?, "1")?;
     remove(&rt, &file)
 }
 
