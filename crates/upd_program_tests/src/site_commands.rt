@@ -113,15 +113,19 @@ fn stored_runs_and_sites_are_listed(rt: HostRuntime) -> Result<(), Fail> {
         Step::Answers("run", &["LYON", "10", "full"], "HELLO\n", (1, REPLY, "")),
         Step::Writes(
             "settle",
-            &["OSLO", "7"],
-            "{\"settled\":7,\"site\":\"OSLO\"}\n",
+            &["OSLO", "999999998"],
+            "{\"settled\":999999998,\"site\":\"OSLO\"}\n",
         ),
         Step::Writes(
             "runs",
             &[],
             "LYON 9 quick accepted A\nLYON 10 full TextNowhere\n",
         ),
-        Step::Writes("sites", &[], "LYON 0 10 11 217\nOSLO 7 7 8 0\n"),
+        Step::Writes(
+            "sites",
+            &[],
+            "LYON 0 10 11 217\nOSLO 999999998 999999998 999999999 0\n",
+        ),
     ];
     session(&rt, "listed", STEPS)
 }
