@@ -53,7 +53,7 @@ def completed(folder, shell, line):
 def asked(shell, commands):
     """Lines that a shell completes wrongly."""
     wanted = {"upd ": sorted(commands), "upd ser": ["serve", "serve-local"], "upd trial ": MODES, "upd run library.db LYON 1 ": MODES,
-              "upd correct-parts library.db FIX LYON 1 ": MODES, "upd try library.db ": MODES,
+              "upd correct-parts library.db FIX LYON 1 ": MODES, "upd try library.db ": MODES, "upd try-at library.db ": MODES,
               "upd run library.db LYON ": [], "upd explain Set": ["Settled"], "upd help ": sorted(commands)}
     wanted |= {f"upd {command} ": ["library.db"] for command in commands if command not in ("trial", "explain", "help")}
     wanted |= {f"{script} ": ["library.db"] for script in SCRIPTS} | WORDS

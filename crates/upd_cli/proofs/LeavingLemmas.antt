@@ -103,7 +103,7 @@ front_all (Correct set) old mid new first none waits front other = subst (TakesF
 front_all (CorrectAt set since) old mid new first none waits front other = subst (TakesFront (most_read (Correct set)) old) (sym (waits (λ no. no))) first
 front_all (CorrectParts set site number mode) old mid new first none waits front other =
     subst (TakesFront (most_read (Correct set)) old) (sym (waits (λ no. no))) first
-front_all (Try mode) old mid new first none waits front other = subst (TakesFront (MAX_RUN_BYTES + 1) old) (sym (waits (λ no. no))) first
+front_all (Try mode since) old mid new first none waits front other = subst (TakesFront (MAX_RUN_BYTES + 1) old) (sym (waits (λ no. no))) first
 front_all (Ask query) old mid new first none waits front other = subst (TakesFront (MAX_RUN_BYTES + 1) old) (sym (waits (λ no. no))) first
 
 -- ---- how the end is told

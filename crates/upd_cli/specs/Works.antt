@@ -28,7 +28,7 @@ ending_of status output faults = ending status (before output) (after output) (b
 abbrev pub Begins : {S : Type 0} → Ghosts S → Command → S → S → Type 0
 Begins meaning (Run site number mode) old begun = IsWarmed meaning old begun
 Begins meaning Spool old begun = IsWarmed meaning old begun
-Begins meaning (Try mode) old begun = IsWarmed meaning old begun
+Begins meaning (Try mode since) old begun = IsWarmed meaning old begun
 Begins meaning (Serve endpoint count) old begun = IsWarmed meaning old begun
 Begins meaning _ old begun = begun ≡ old
 
@@ -54,7 +54,7 @@ abbrev pub OnlyReads : Command → Type 0
 OnlyReads (Correct set) = Unit {0}
 OnlyReads (CorrectAt set since) = Unit {0}
 OnlyReads (CorrectParts set site number mode) = Unit {0}
-OnlyReads (Try mode) = Unit {0}
+OnlyReads (Try mode since) = Unit {0}
 OnlyReads (Ask query) = Unit {0}
 OnlyReads _ = ⊥
 

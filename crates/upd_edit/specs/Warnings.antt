@@ -1,19 +1,21 @@
 -- The warnings of a run that is tried on a library.
-use Rattle.std.specs.Prelude.{ℕ, ◌+◌, ◌-◌, ◌==◌, nat_lt, not, ◌&&◌, if◌then◌else◌, List, [], ◌∷◌, ◌++◌, length, count_by, position, find, reverse}
-use Rattle.std.specs.Prelude.{codes, decimal, min, Option, Some, None, Result, Ok, Err}
+use Rattle.std.specs.Prelude.{ℕ, ◌+◌, ◌-◌, ◌==◌, nat_lt, not, Bool, ◌&&◌, if◌then◌else◌, List, [], ◌∷◌, ◌++◌, length, count_by, position, find, reverse}
+use Rattle.std.specs.Prelude.{codes, decimal, drop, min, take, Option, Some, None, Result, Ok, Err}
 use Rattle.std.specs.List.{flat_map, slice_split}
 use Rattle.std.specs.Option.{option_and_then, option_map_or}
 use Rattle.std.specs.Str.{bytes_eq}
 use Rattle.upd_text.specs.declared.card_ref.CardRef.{CardRef}
 use Rattle.upd_text.specs.declared.fault.Fault.{Fault}
+use Rattle.upd_text.specs.declared.fault.FaultKind.TheVariants.{IdentUnknown}
 use Rattle.upd_text.specs.Lines.{is_comment, is_starred, word}
+use Rattle.upd_text.specs.Outcome.{◌>>=◌, at_line, need}
 use Rattle.upd_text.specs.Units.{Bytes}
 use Rattle.upd_core.specs.declared.card.Entry.{Entry}
 use Rattle.upd_core.specs.declared.library.Place.{Place}
 use Rattle.upd_core.specs.declared.target.Target.{Target}
-use Rattle.upd_core.specs.Library.{CardView, LibraryView, card_in, cards_of, name_of, place_of}
+use Rattle.upd_core.specs.Library.{CardView, LibraryView, card_in, cards_of, ident_of, name_of, place_of}
 use Rattle.upd_core.specs.Serials.{Serial}
-use Rattle.upd_core.specs.Status.{is_taken, live_targets}
+use Rattle.upd_core.specs.Status.{is_active, is_taken, live_targets}
 use Rattle.upd_deck.specs.Items.{ItemView, LineView, Text, Delete, Restore, Yank, Purge}
 use Rattle.upd_deck.specs.Reading.{is_feed, reading}
 use Rattle.upd_edit.specs.NearWords.{near_word}
@@ -69,6 +71,12 @@ off_by_warning line card set = warning line (card.name ∷ codes "." ∷ decimal
 abbrev pub off_warning : ℕ → CardRef → LibraryView → Bytes
 off_warning line card l = option_map_or (off_by_warning line card) (off_by card l) []
 
+-- the warnings of the ends of a range that are off already
+abbrev pub ends_warnings : ℕ → CardRef → CardRef → LibraryView → Bytes
+ends_warnings line first last l =
+    off_warning line first l
+    ++ (if bytes_eq first.name last.name && (first.number == last.number) then [] else off_warning line last l)
+
 -- ---- wide ranges
 
 -- the number of the cards from one place to another of a deck
@@ -86,26 +94,46 @@ wide_warning line first last l =
     let count = cards_between (place_of first l) (place_of last l) l in
     if nat_lt narrow count then warning line (codes "the range has " ∷ decimal count ∷ codes " cards" ∷ []) else []
 
+-- ---- cards that came after an ident
+
+-- whether a card of a deck is active and came after an ident
+abbrev pub came_after : List Target → Serial → Serial → CardView → Bool
+came_after live deck z card = nat_lt z card.ident && is_active live deck card
+
+-- the first such card from one place to another of a deck
+abbrev pub later_card : Serial → Place → Place → LibraryView → Option CardView
+later_card z p q l =
+    find (came_after (live_targets l) p.deck z) (drop p.index (take (min (length (cards_of p.deck l)) (q.index + 1)) (cards_of p.deck l)))
+
+-- the warning of a card that came after an ident: `B.3 came after A and is deleted`
+abbrev pub later_warning : ℕ → LibraryView → Serial → CardView → Bytes
+later_warning line l z card =
+    warning line (name_of l.idents card.ident ∷ codes "." ∷ decimal card.number ∷ codes " came after " ∷ name_of l.idents z ∷ codes " and is deleted" ∷ [])
+
+-- the warning of the first card of a range that came after an ident, where one is given
+abbrev pub range_warning : ℕ → Option Serial → Option Place → Option Place → LibraryView → Bytes
+range_warning line (Some z) (Some p) (Some q) l = if p.deck == q.deck then option_map_or (later_warning line l z) (later_card z p q l) [] else []
+range_warning line z p q l = []
+
+-- the warnings of a range that is deleted
+abbrev pub deletion_warnings : LibraryView → Option Serial → ℕ → CardRef → CardRef → Bytes
+deletion_warnings l z line first last =
+    ends_warnings line first last l ++ (wide_warning line first last l ++ range_warning line z (place_of first l) (place_of last l) l)
+
 -- ---- lines and runs
 
--- the warnings of the ends of a range that are off already
-abbrev pub ends_warnings : ℕ → CardRef → CardRef → LibraryView → Bytes
-ends_warnings line first last l =
-    off_warning line first l
-    ++ (if bytes_eq first.name last.name && (first.number == last.number) then [] else off_warning line last l)
-
 -- the warnings of an item, with the text of its line
-abbrev pub item_warnings : LibraryView → ℕ → Bytes → ItemView → Bytes
-item_warnings l line text Text = text_warning line text
-item_warnings l line text (Delete first last) = ends_warnings line first last l ++ wide_warning line first last l
-item_warnings l line text (Restore first last) = wide_warning line first last l
-item_warnings l line text (Yank names) = taking_warnings line (codes "yank") l names
-item_warnings l line text (Purge names) = taking_warnings line (codes "purge") l names
-item_warnings l line text _ = []
+abbrev pub item_warnings : LibraryView → Option Serial → ℕ → Bytes → ItemView → Bytes
+item_warnings l z line text Text = text_warning line text
+item_warnings l z line text (Delete first last) = deletion_warnings l z line first last
+item_warnings l z line text (Restore first last) = wide_warning line first last l
+item_warnings l z line text (Yank names) = taking_warnings line (codes "yank") l names
+item_warnings l z line text (Purge names) = taking_warnings line (codes "purge") l names
+item_warnings l z line text _ = []
 
 -- the warnings of a line
-abbrev pub line_warnings : LibraryView → LineView → Bytes
-line_warnings l line = item_warnings l line.number line.text line.item
+abbrev pub line_warnings : LibraryView → Option Serial → LineView → Bytes
+line_warnings l z line = item_warnings l z line.number line.text line.item
 
 -- the warning of a run with no lines
 abbrev pub empty_warning : List LineView → Bytes
@@ -113,10 +141,15 @@ empty_warning [] = warning 1 (codes "the run is empty: it changes nothing" ∷ [
 empty_warning (line ∷ lines) = []
 
 -- the warnings of a run by its reading: of its comments, and then of its lines in order; none where it can't be read
-abbrev pub read_warnings : Bytes → Result (List LineView) Fault → LibraryView → Bytes
-read_warnings run (Err fault) l = []
-read_warnings run (Ok lines) l = comment_warning run ++ (empty_warning lines ++ flat_map (line_warnings l) lines)
+abbrev pub read_warnings : Bytes → Result (List LineView) Fault → Option Serial → LibraryView → Bytes
+read_warnings run (Err fault) z l = []
+read_warnings run (Ok lines) z l = comment_warning run ++ (empty_warning lines ++ flat_map (line_warnings l z) lines)
 
--- the warnings of a run that is tried on a library
-abbrev pub warning_lines : Bytes → LibraryView → Bytes
-warning_lines run l = read_warnings run (reading run) l
+-- the serial of the ident with a name, where one is given
+abbrev pub serial_since : Option Bytes → LibraryView → Result (Option Serial) Fault
+serial_since None l = Ok None
+serial_since (Some name) l = at_line 0 (need IdentUnknown (ident_of name l)) >>= (λ z. Ok (Some z))
+
+-- the warnings of a run that is tried on a library, where its author may have seen no ident later than one
+abbrev pub warning_lines : Option Bytes → Bytes → LibraryView → Result Bytes Fault
+warning_lines since run l = serial_since since l >>= (λ z. Ok (read_warnings run (reading run) z l))

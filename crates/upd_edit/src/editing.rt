@@ -108,20 +108,21 @@ pub fn try_at<S: RowStore>(
     }
 }
 
-/// The warnings of a run that is tried now, a line each, with LF. None where the run can't be read; after NoMemory or
-/// Store, at 0, it can be asked again.
+/// The warnings of a run that is tried now, as `upd_edit::warning_lines` says them. After NoMemory or Store, at 0, it can
+/// be asked again.
 pub fn warnings_at<S: RowStore>(
     alloc: Global,
     desk: &mut Desk<S>,
+    since: Option<Name>,
     run: &[u8],
 ) -> Result<Vec<u8>, Fault>
-    ensures text { Tells S.Meaning (λ l. Ok (warning_lines run.now l))
+    ensures text { Tells S.Meaning (warning_lines since run.now)
         (result_map_both (λ text. text.items) (λ fault. fault) result) desk.old.store desk.new.store }
     ensures same { Keeps S.Meaning desk.old.store desk.new.store }
     ensures failed { CountsFailure S.Meaning result desk.old.store desk.new.store }
 {
     let library = desk.library(alloc)?;
-    match warning_lines(alloc, &library, run) {
+    match warning_lines(alloc, &library, since, run) {
         Ok(text) => Ok(text),
         Err(fault) => Err(fault),
     }

@@ -9,6 +9,7 @@ pub mod deck_text;
 pub mod earlier;
 pub mod editing;
 mod near_words;
+mod range_warnings;
 pub mod refused;
 mod warning_text;
 pub mod warnings;

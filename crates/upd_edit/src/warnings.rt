@@ -3,37 +3,74 @@ ghost use Rattle.std.specs.Prelude.{◌≡◌, ◌+◌, ◌<◌, ◌^◌, ◌++�
 ghost use Rattle.std.specs.List.{flat_map};
 ghost use Rattle.upd_core.specs.Library.{name_of};
 ghost use Rattle.upd_core.specs.Status.{live_of};
+ghost use Rattle.upd_deck.specs.Reading.{reading};
 ghost use Rattle.upd_text.specs.Lines.{is_comment};
 ghost use Rattle.upd_text.specs.Outcome.{GivesAt};
-ghost use Rattle.upd_edit.specs.Warnings.{cards_between, comment_warning, dropped_warning, ends_warnings, last_entry};
-ghost use Rattle.upd_edit.specs.Warnings.{line_warnings, lines_of, meant_warning, off_by, off_by_warning, off_warning};
-ghost use Rattle.upd_edit.specs.Warnings.{empty_warning, text_warning, warning_lines, wide_warning};
+ghost use Rattle.upd_edit.specs.Warnings.{comment_warning, deletion_warnings, dropped_warning, empty_warning, ends_warnings};
+ghost use Rattle.upd_edit.specs.Warnings.{last_entry, line_warnings, lines_of, meant_warning, off_by, off_by_warning, off_warning};
+ghost use Rattle.upd_edit.specs.Warnings.{read_warnings, serial_since, text_warning, warning_lines};
 
 use crate::near_words::near_word;
+use crate::range_warnings::{push_late, push_wide};
 use crate::warning_text::push_warning;
 use crate::yank_warnings::push_taking;
 use itoa::Buffer;
 use std::alloc::{AllocError, Global};
 use upd_core::ident::name_at;
-use upd_core::{Card, Entry, Library, Live, Name, Place, Serial};
+use upd_core::{Card, Entry, Library, Live, Name, Serial};
 use upd_deck::{Item, Line, read_run};
 use upd_text::line::{is_comment, is_starred, word};
 use upd_text::{CardRef, Fault, FaultKind};
 
-/// The most cards of a range that isn't wide.
-const NARROW: usize = 20;
+/// The warnings of a run that is tried on a library, a line each, with LF. None where the run can't be read. Where an
+/// ident is given, each line has one that deletes an active card that came after it. IdentUnknown, at 0, where no held
+/// ident has its name.
+pub fn warning_lines(
+    alloc: Global,
+    library: &Library,
+    since: Option<Name>,
+    run: &[u8],
+) -> Result<Vec<u8>, Fault>
+    ensures { GivesAt (λ text. text.items) result (warning_lines since run.now library.now) }
+{
+    let since = serial_since(library, since)?;
+    lines_since(alloc, library, since, run)
+}
 
-/// The warnings of a run that is tried on a library, a line each, with LF. None where the run can't be read. The only
-/// error is NoMemory.
-pub fn warning_lines(alloc: Global, library: &Library, run: &[u8]) -> Result<Vec<u8>, Fault>
-    ensures { GivesAt (λ text. text.items) result (Ok (warning_lines run.now library.now)) }
+/// The serial of the ident with a name, where one is given.
+fn serial_since(library: &Library, since: Option<Name>) -> Result<Option<Serial>, Fault>
+    ensures { result ≡ serial_since since library.now }
+{
+    match since {
+        None => Ok(None),
+        Some(name) => match library.ident_of(&name) {
+            Some(serial) => Ok(Some(serial)),
+            None => Err(FaultKind::IdentUnknown.without_line()),
+        },
+    }
+}
+
+/// The same, by the serial of the ident. The only error is NoMemory.
+fn lines_since(
+    alloc: Global,
+    library: &Library,
+    since: Option<Serial>,
+    run: &[u8],
+) -> Result<Vec<u8>, Fault>
+    ensures { GivesAt (λ text. text.items) result (Ok (read_warnings run.now (reading run.now) since library.now)) }
 {
     let mut text = Vec::new(alloc);
     match read_run(alloc, run) {
         Ok(read) => {
             push_comments(&mut text, run)?;
             push_empty(&mut text, read.lines())?;
-            push_lines(&mut text, library, &library.live_yanks()?, read.lines())?;
+            push_lines(
+                &mut text,
+                library,
+                &library.live_yanks()?,
+                since,
+                read.lines(),
+            )?;
             Ok(text)
         }
         Err(fault) => match fault.kind {
@@ -100,13 +137,14 @@ fn push_lines(
     text: &mut Vec<u8>,
     library: &Library,
     live: &Live,
+    since: Option<Serial>,
     lines: &[Line],
 ) -> Result<(), AllocError>
     requires { live.now ≡ live_of library.now }
-    ensures { OnOk result (text.new.items ≡ text.old.items ++ flat_map (line_warnings library.now) lines.now) }
+    ensures { OnOk result (text.new.items ≡ text.old.items ++ flat_map (line_warnings library.now since) lines.now) }
 {
     for line in lines {
-        push_line(text, library, live, line)?;
+        push_line(text, library, live, since, line)?;
     }
     Ok(())
 }
@@ -116,17 +154,17 @@ fn push_line(
     text: &mut Vec<u8>,
     library: &Library,
     live: &Live,
+    since: Option<Serial>,
     line: &Line,
 ) -> Result<(), AllocError>
     requires { live.now ≡ live_of library.now }
-    ensures { OnOk result (text.new.items ≡ text.old.items ++ line_warnings library.now line.now) }
+    ensures { OnOk result (text.new.items ≡ text.old.items ++ line_warnings library.now since line.now) }
 {
     let number = line.number as usize;
     match &line.item {
         Item::Text => push_text(text, number, line.text),
         Item::Delete { first, last } => {
-            push_ends(text, library, live, number, first, last)?;
-            push_wide(text, library, number, first, last)
+            push_deletion(text, library, live, since, number, first, last)
         }
         Item::Restore { first, last } => push_wide(text, library, number, first, last),
         Item::Yank(names) => push_taking(text, library, live, number, b"yank", names),
@@ -230,7 +268,7 @@ fn off_by(library: &Library, live: &Live, card: &CardRef) -> Option<Name>
 }
 
 /// The name of the ident with a serial, which is empty where there is no such ident.
-fn name_of(library: &Library, ident: Serial) -> Name
+pub(crate) fn name_of(library: &Library, ident: Serial) -> Name
     ensures { result ≡ name_of library.now.idents ident }
 {
     name_at(library.idents(), ident).unwrap_or(Name::none())
@@ -247,39 +285,21 @@ fn last_entry(live: &Live, deck: Serial, card: &Card) -> Option<Entry>
         .copied()
 }
 
-/// Appends the warning of a wide range.
-fn push_wide(
+/// Appends the warnings of a range that is deleted.
+fn push_deletion(
     text: &mut Vec<u8>,
     library: &Library,
+    live: &Live,
+    since: Option<Serial>,
     number: usize,
     first: &CardRef,
     last: &CardRef,
 ) -> Result<(), AllocError>
-    ensures { OnOk result (text.new.items ≡ text.old.items ++ wide_warning number first.now last.now library.now) }
+    requires { live.now ≡ live_of library.now }
+    ensures { OnOk result (text.new.items ≡ text.old.items ++ deletion_warnings library.now since number first.now last.now) }
 {
-    let count = cards_between(library, library.card_at(*first), library.card_at(*last));
-    if count > NARROW {
-        let mut digits = Buffer::new();
-        let words: [&[u8]; 3] = [
-            b"the range has ",
-            digits.format(count).as_bytes(),
-            b" cards",
-        ];
-        push_warning(text, number, &words)?;
-    }
-    Ok(())
-}
-
-/// The number of the cards from one place to another of a deck.
-fn cards_between(library: &Library, from: Option<Place>, to: Option<Place>) -> usize
-    ensures { result ≡ cards_between from to library.now }
-{
-    match (from, to) {
-        (Some(from), Some(to)) if from.deck == to.deck => library
-            .cards_of(from.deck)
-            .len()
-            .min(to.index.saturating_add(1))
-            .saturating_sub(from.index),
-        _ => 0,
-    }
+    push_ends(text, library, live, number, first, last)?;
+    push_wide(text, library, number, first, last)?;
+    let (from, to) = (library.card_at(*first), library.card_at(*last));
+    push_late(text, library, live, since, number, from, to)
 }

@@ -1,5 +1,5 @@
 -- A run that was tried: its reply and its warnings, made one after the other.
-use Rattle.upd_subcommands.proofs.Common.{◌≡◌, ℕ, List, Result, Ok, sym, subst, Fault, Ghosts, Keeps, Tells}
+use Rattle.upd_subcommands.proofs.Common.{◌≡◌, ℕ, List, Option, Result, Ok, sym, subst, Fault, Ghosts, Keeps, Tells}
 use Rattle.upd_core.specs.Library.{LibraryView}
 use Rattle.upd_row_store.proofs.StoreLemmas.{keeps_keeps}
 use Rattle.upd_desk.specs.Holding.{HoldsIn, IsHeld}
@@ -17,11 +17,11 @@ module _ {S : Type 0} (meaning : Ghosts S) where
   held_still old mid keeps honest journal held = λ is.
       subst (HoldsIn shows journal) (sym (keeps.same honest is)) (held (keeps.later.was_open honest is))
 
-  pub tried_as : (mode run : List ℕ) (answer : Result ReplyView Fault) (warnings : Result (List ℕ) Fault) (old mid new : S)
+  pub tried_as : (mode : List ℕ) (since : Option (List ℕ)) (run : List ℕ) (answer : Result ReplyView Fault) (warnings : Result (List ℕ) Fault) (old mid new : S)
       → Tells meaning (reply_on (tried mode run)) answer old mid → Keeps meaning old mid
-      → Tells meaning (λ l. Ok (warning_lines run l)) warnings mid new → Keeps meaning mid new
-      → IsTriedAs meaning mode run answer warnings old new
-  tried_as mode run answer warnings old mid new replies first warns second = record {
+      → Tells meaning (warning_lines since run) warnings mid new → Keeps meaning mid new
+      → IsTriedAs meaning mode since run answer warnings old new
+  tried_as mode since run answer warnings old mid new replies first warns second = record {
     reply = λ honest journal held. replies (second.later.honest honest) journal held;
     warns = λ honest journal held. warns honest journal (held_still old mid first (second.later.honest honest) journal held);
     same = keeps_keeps first second;

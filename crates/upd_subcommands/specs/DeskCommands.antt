@@ -81,15 +81,16 @@ module _ {S : Type 0} (meaning : Ghosts S) where
       ⊎ ((new ≡ old) × IsUnread result × Appends output output' [])
 
   -- a run was tried: here are the reply that it would get and its warnings, and nothing is changed
-  pub record IsTriedAs (mode run : List ℕ) (answer : Result ReplyView Fault) (warnings : Result (List ℕ) Fault) (old new : S) : Type 0 where
+  pub record IsTriedAs (mode : List ℕ) (since : Option (List ℕ)) (run : List ℕ) (answer : Result ReplyView Fault) (warnings : Result (List ℕ) Fault)
+      (old new : S) : Type 0 where
     pub reply : Tells meaning (reply_on (tried mode run)) answer old new
-    pub warns : Tells meaning (λ l. Ok (warning_lines run l)) warnings old new
+    pub warns : Tells meaning (warning_lines since run) warnings old new
     pub same : Keeps meaning old new
 
   -- a run was tried, and its reply and its warnings were told
-  abbrev pub TriesRun : List ℕ → List ℕ → S → S → Ending → Type 0
-  TriesRun mode run old new end =
-      (answer : Result ReplyView Fault) × (warnings : Result (List ℕ) Fault) × IsTriedAs mode run answer warnings old new
+  abbrev pub TriesRun : List ℕ → Option (List ℕ) → List ℕ → S → S → Ending → Type 0
+  TriesRun mode since run old new end =
+      (answer : Result ReplyView Fault) × (warnings : Result (List ℕ) Fault) × IsTriedAs mode since run answer warnings old new
       × ReportsTried answer warnings end
 
   -- An edited text is answered by a run that leads decks of the library to it, or by what is wrong with it. A failure is a loss, or the text is too long.
@@ -158,6 +159,6 @@ module _ {S : Type 0} (meaning : Ghosts S) where
   Does (CorrectParts set site number mode) text ended old new input output faults =
       IsOkAnd ended (λ status. CorrectsParts meaning set.now site.now number mode.now text old new
       (ending status (before output) (after output) (before faults) (after faults)))
-  Does (Try mode) text ended old new input output faults =
-      IsOkAnd ended (λ status. TriesRun mode.now text old new (ending status (before output) (after output) (before faults) (after faults)))
+  Does (Try mode since) text ended old new input output faults =
+      IsOkAnd ended (λ status. TriesRun mode.now since text old new (ending status (before output) (after output) (before faults) (after faults)))
   Does (Ask query) text ended old new input output faults = AsksQuery query ended old new (before output) (after output)

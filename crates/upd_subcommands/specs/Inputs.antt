@@ -29,17 +29,17 @@ abbrev pub ReadsFirst : Command → Type 0
 ReadsFirst (Correct set) = Unit {0}
 ReadsFirst (CorrectAt set since) = Unit {0}
 ReadsFirst (CorrectParts set site number mode) = Unit {0}
-ReadsFirst (Try mode) = Unit {0}
+ReadsFirst (Try mode since) = Unit {0}
 ReadsFirst _ = ⊥
 
 -- it may tell refusals on the output
 abbrev pub WritesRefusals : Command → Type 0
-WritesRefusals (Try mode) = Unit {0}
+WritesRefusals (Try mode since) = Unit {0}
 WritesRefusals command = HandsRuns command
 
 -- it may write to the fault stream though all is done: warnings, or where it listens
 abbrev pub UsesFaults : Command → Type 0
-UsesFaults (Try mode) = Unit {0}
+UsesFaults (Try mode since) = Unit {0}
 UsesFaults (Serve endpoint count) = Unit {0}
 UsesFaults _ = ⊥
 
@@ -55,7 +55,7 @@ abbrev pub IsFirstRead : Command → Option (List ℕ) → Option (List ℕ) →
 IsFirstRead (Correct set) input input' text = IsFrontOf (MAX_TEXT_BYTES + 1) input text
 IsFirstRead (CorrectAt set since) input input' text = IsFrontOf (MAX_TEXT_BYTES + 1) input text
 IsFirstRead (CorrectParts set site number mode) input input' text = IsFrontOf (MAX_TEXT_BYTES + 1) input text
-IsFirstRead (Try mode) input input' text = IsRunOn input text
+IsFirstRead (Try mode since) input input' text = IsRunOn input text
 IsFirstRead _ input input' text = input' ≡ input
 
 -- ---- requests

@@ -15,7 +15,7 @@ use std::io::{Read, Write};
 use upd_desk::{Desk, Reply, fault_answer, settled_parts};
 use upd_edit::{try_at, warnings_at};
 use upd_row_store::RowStore;
-use upd_text::Fault;
+use upd_text::{Fault, Name};
 
 /// The run on the input arrives, and its reply goes to the output as a line. So does the text of a fault, except
 /// NoMemory and Store. Nothing is allocated between the reply and its output.
@@ -44,16 +44,17 @@ pub(crate) fn try_run<S: RowStore, W: Write, E: Write>(
     alloc: Global,
     desk: &mut Desk<S>,
     mode: &str,
+    since: Option<Name>,
     run: &[u8],
     output: &mut W,
     faults: &mut E,
 ) -> u8
-    ensures reports { TriesRun S.Meaning mode.now run.now desk.old.store desk.new.store
+    ensures reports { TriesRun S.Meaning mode.now since run.now desk.old.store desk.new.store
         (ending result (W.contents output.old) (W.contents output.new) (E.contents faults.old) (E.contents faults.new)) }
     ensures status { result ≢ 2 }
 {
     let answer = try_at(alloc, desk, mode, run);
-    match warnings_at(alloc, desk, run) {
+    match warnings_at(alloc, desk, since, run) {
         Ok(warnings) => write_tried(alloc, answer, &warnings, output, faults),
         Err(fault) => finish(Err(fault), faults),
     }

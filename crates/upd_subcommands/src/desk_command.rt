@@ -89,7 +89,9 @@ pub fn carry_out_at<S: RowStore, R: Read, W: Write, E: Write>(
             number,
             mode,
         } => Ok(correct_text_in_parts(alloc, desk, set, site, *number, mode, text, output, faults)),
-        Command::Try { mode } => Ok(try_run(alloc, desk, mode, text, output, faults)),
+        Command::Try { mode, since } => {
+            Ok(try_run(alloc, desk, mode, *since, text, output, faults))
+        }
         Command::Ask(query) => answer_query(alloc, desk, query, output),
     }
 }

@@ -1,5 +1,5 @@
 -- What the words of a command line ask for, by the rules of `clap`.
-use Rattle.std.specs.Prelude.{◌≡◌, ◌≢◌, ℕ, ◌≤◌, ◌⊎◌, ◌==◌, true, false, List, [], ◌∷◌, codes, map, Some, IsSomeAnd, Result, Ok, Err, unwrap_or}
+use Rattle.std.specs.Prelude.{◌≡◌, ◌≢◌, ℕ, ◌≤◌, ◌⊎◌, ◌==◌, true, false, List, [], ◌∷◌, codes, map, Option, Some, None, IsSomeAnd, Result, Ok, Err, unwrap_or}
 use Rattle.std.specs.Str.Parse.{IsNumeral, digits_value, without_leading_plus}
 use Rattle.std.specs.Option.{option_and_then, option_map}
 use Rattle.clap.specs.Simple.{new_shape}
@@ -67,6 +67,7 @@ upd_commands =
       word_of (codes "FILE") ∷ word_of (codes "SET") ∷ word_of (codes "SITE") ∷ word_of (codes "NUMBER") ∷ word_of (codes "MODE") ∷ [],
     )
     ∷ (codes "try", word_of (codes "FILE") ∷ word_of (codes "MODE") ∷ [])
+    ∷ (codes "try-at", word_of (codes "FILE") ∷ word_of (codes "MODE") ∷ word_of (codes "SINCE") ∷ [])
     ∷ (codes "source", word_of (codes "FILE") ∷ word_of (codes "DECK") ∷ [])
     ∷ (codes "runs", word_of (codes "FILE") ∷ [])
     ∷ (codes "sites", word_of (codes "FILE") ∷ [])
@@ -95,7 +96,8 @@ file_commands =
 
 -- those that use it for more than a text about the library, but for those that serve
 abbrev pub desk_commands : List Text
-desk_commands = codes "run" ∷ codes "settle" ∷ codes "spool" ∷ codes "correct" ∷ codes "correct-at" ∷ codes "correct-parts" ∷ codes "try" ∷ []
+desk_commands =
+    codes "run" ∷ codes "settle" ∷ codes "spool" ∷ codes "correct" ∷ codes "correct-at" ∷ codes "correct-parts" ∷ codes "try" ∷ codes "try-at" ∷ []
 
 -- the program before its first command; `clap` adds a command `help`
 abbrev pub upd_top : App
@@ -173,6 +175,16 @@ abbrev pub HasEndpoint : List Row → Endpoint → Type 0
 HasEndpoint rows (Address address) = IsSocketText (operand_in (codes "ADDRESS") rows) address
 HasEndpoint rows (Path path) = path.now ≡ operand_in (codes "PATH") rows
 
+-- the command that tries a run, with an ident or without
+abbrev pub trying_name : Option Text → Text
+trying_name None = codes "try"
+trying_name (Some since) = codes "try-at"
+
+-- the ident is the operand SINCE, where there is one
+abbrev pub HasSince : List Row → Option Text → Type 0
+HasSince rows None = Unit {0}
+HasSince rows (Some since) = name_read (operand_in (codes "SINCE") rows) ≡ Ok since
+
 -- the command's name, and its operands beside FILE
 abbrev pub command_name : Command → Text
 command_name (Run site number mode) = codes "run"
@@ -182,7 +194,7 @@ command_name (Serve endpoint count) = serving_name endpoint
 command_name (Correct set) = codes "correct"
 command_name (CorrectAt set since) = codes "correct-at"
 command_name (CorrectParts set site number mode) = codes "correct-parts"
-command_name (Try mode) = codes "try"
+command_name (Try mode since) = trying_name since
 command_name (Ask query) = query_name query
 
 abbrev pub HasOperands : List Row → Command → Type 0
@@ -196,7 +208,7 @@ HasOperands rows (Correct set) = set.now ≡ operand_in (codes "SET") rows
 HasOperands rows (CorrectAt set since) = (set.now ≡ operand_in (codes "SET") rows) × (name_read (operand_in (codes "SINCE") rows) ≡ Ok since)
 HasOperands rows (CorrectParts set site number mode) = (set.now ≡ operand_in (codes "SET") rows) × (site.now ≡ operand_in (codes "SITE") rows)
     × (number_read (operand_in (codes "NUMBER") rows) ≡ Ok number) × (mode.now ≡ operand_in (codes "MODE") rows)
-HasOperands rows (Try mode) = mode.now ≡ operand_in (codes "MODE") rows
+HasOperands rows (Try mode since) = (mode.now ≡ operand_in (codes "MODE") rows) × HasSince rows since
 HasOperands rows (Ask query) = HasQueried rows query
 
 -- the command that a request is for
@@ -244,7 +256,7 @@ IsRefused (name, rows) fault =
     (IsNamed name (codes "run" ∷ codes "settle" ∷ codes "correct-parts" ∷ []) × (number_read (operand_in (codes "NUMBER") rows) ≡ Err fault))
     ⊎ ((IsNamed name (codes "list" ∷ codes "blame" ∷ codes "text" ∷ codes "text-at" ∷ codes "source" ∷ [])
     × (name_read (operand_in (codes "DECK") rows) ≡ Err fault))
-    ⊎ ((IsNamed name (codes "text-at" ∷ codes "correct-at" ∷ []) × (name_read (operand_in (codes "SINCE") rows) ≡ Err fault))
+    ⊎ ((IsNamed name (codes "text-at" ∷ codes "correct-at" ∷ codes "try-at" ∷ []) × (name_read (operand_in (codes "SINCE") rows) ≡ Err fault))
     ⊎ (((name ≡ codes "show") × (name_read (operand_in (codes "IDENT") rows) ≡ Err fault))
     ⊎ ((name ≡ codes "history") × (card_read (operand_in (codes "CARD") rows) ≡ Err fault)))))
 

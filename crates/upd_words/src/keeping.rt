@@ -9,9 +9,9 @@ use clap::Command;
 use clap::builder::ValueParser;
 use std::alloc::{AllocError, Global};
 
-/// The program with its first twenty-five commands.
+/// The program with its first twenty-six commands.
 pub(crate) fn seventh_commands<'a>(alloc: Global) -> Result<Command<'a>, AllocError>
-    ensures { IfOk result (λ c. app_of c ≡ app_with (take 25 upd_commands)) }
+    ensures { IfOk result (λ c. app_of c ≡ app_with (take 26 upd_commands)) }
 {
     const COPY: Operand = (
         "COPY",
@@ -24,9 +24,9 @@ pub(crate) fn seventh_commands<'a>(alloc: Global) -> Result<Command<'a>, AllocEr
     with_command(app, alloc, "backup", BACKUP, &[FILE, COPY])
 }
 
-/// The program with its first twenty-two commands.
+/// The program with its first twenty-three commands.
 fn sixth_commands<'a>(alloc: Global) -> Result<Command<'a>, AllocError>
-    ensures { IfOk result (λ c. app_of c ≡ app_with (take 22 upd_commands)) }
+    ensures { IfOk result (λ c. app_of c ≡ app_with (take 23 upd_commands)) }
 {
     const SET: Operand = (
         "SET",
@@ -39,6 +39,7 @@ fn sixth_commands<'a>(alloc: Global) -> Result<Command<'a>, AllocError>
     let parts = [FILE, SET, SITE, NUMBER, MODE];
     let app = with_command(app, alloc, "correct-parts", CORRECT_PARTS, &parts)?;
     let app = with_command(app, alloc, "try", TRY, &[FILE, MODE])?;
+    let app = with_command(app, alloc, "try-at", TRY_AT, &[FILE, MODE, SINCE])?;
     with_command(app, alloc, "source", SOURCE, &[FILE, DECK])
 }
 
@@ -107,8 +108,8 @@ Reads a run of at most 65536 bytes and writes the reply that `upd run` would wri
 but for the site and the number: they are TRY and 1. Changes nothing, and no number is used.
 
 Warnings follow on standard error, a line each, with the number of the line of the run: comments,
-which are dropped, text that may be meant for a directive, a card that is off already, and a range
-of more than 20 cards. They don't change the exit status.
+which are dropped, text that may be meant for a directive, a card that is off already, a range of
+more than 20 cards, a yank or purge that younger sets stand on. They don't change the exit status.
 
 Exit status: 0 the run would be accepted; 1 refused; 2 the command line can't be read; 3 out of
 memory, or the library, a read or a write failed. A refusal is a line of JSON on standard output;
@@ -116,6 +117,21 @@ any other fault is one line on standard error.
 
 Example, after `upd init library.db`:
   printf '*DECK A\\nONE\\n' | upd try library.db full",
+};
+
+const TRY_AT: Text = Text {
+    about: "Does what `try` does, and warns where the run deletes a card that came after SINCE",
+    more: "\
+Reads and writes as `upd try` does. SINCE is the youngest ident that the author of the run has seen:
+of a site's stored runs the last name that `upd runs` has. Each line of the run that deletes active
+cards of later idents has a warning, with the first of them.
+
+Exit status: 0 the run would be accepted; 1 refused, or SINCE is not a name or no ident; 2 the command
+line can't be read; 3 out of memory, or the library, a read or a write failed.
+
+Example, after `upd init library.db`:
+  printf '*DECK A\\nONE\\n' | upd run library.db LYON 1 full
+  printf '*IDENT B\\n*DELETE A.2\\n' | upd try-at library.db full A",
 };
 
 const SOURCE: Text = Text {

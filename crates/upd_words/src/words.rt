@@ -90,6 +90,7 @@ pub enum Command<'a> {
     },
     Try {
         mode: &'a str,
+        since: Option<Name>,
     },
     Ask(Query),
 }
@@ -221,7 +222,15 @@ fn read_desk_command<'a>(name: &str, operands: &ArgMatches<'a>) -> Result<Comman
         },
         "try" => Ok(Command::Try {
             mode: word(operands, "MODE"),
+            since: None,
         }),
+        "try-at" => match crate::operands::name(operands, "SINCE") {
+            Ok(since) => Ok(Command::Try {
+                mode: word(operands, "MODE"),
+                since: Some(since),
+            }),
+            Err(fault) => Err(fault),
+        },
         _ => match read_query(name, operands) {
             Ok(query) => Ok(Command::Ask(query)),
             Err(fault) => Err(fault),

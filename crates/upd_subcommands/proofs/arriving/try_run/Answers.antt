@@ -11,7 +11,7 @@ returns-in-Ok-clause-reports g c =
     (g.W.Write.contents c.write_tried.new.output) (g.E.Write.contents c.args.faults.now) (g.E.Write.contents c.write_tried.new.faults)) in (
       c.try_at-answer.result,
       Ok c.in-Ok.warnings.items,
-      tried_as g.S.Meaning c.args.mode.now c.args.run.now c.try_at-answer.result (Ok c.in-Ok.warnings.items)
+      tried_as g.S.Meaning c.args.mode.now c.args.since c.args.run.now c.try_at-answer.result (Ok c.in-Ok.warnings.items)
           c.args.desk.now.store c.try_at-answer.new.desk.store c.warnings_at.new.desk.store
           c.try_at-answer.ensures.reply c.try_at-answer.ensures.same c.in-Ok.ensures.text c.in-Ok.ensures.same,
       subst TellsAll c.deref.ensures.value c.write_tried.ensures.reports,
@@ -21,7 +21,7 @@ pub returns-in-Err-clause-reports : goal.returns-in-Err-clause-reports
 returns-in-Err-clause-reports g c = (
   c.try_at-answer.result,
   Err c.in-Err.fault,
-  tried_as g.S.Meaning c.args.mode.now c.args.run.now c.try_at-answer.result (Err c.in-Err.fault)
+  tried_as g.S.Meaning c.args.mode.now c.args.since c.args.run.now c.try_at-answer.result (Err c.in-Err.fault)
       c.args.desk.now.store c.try_at-answer.new.desk.store c.warnings_at.new.desk.store
       c.try_at-answer.ensures.reply c.try_at-answer.ensures.same c.in-Err.ensures.text c.in-Err.ensures.same,
   (c.finish.ensures.reported, Appends-nil (g.W.Write.contents c.args.output.now)),

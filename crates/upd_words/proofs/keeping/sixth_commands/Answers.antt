@@ -8,4 +8,5 @@ returns c =
     let app2 = with_more c.in_ok-app-2.app c.in_ok-app-3.app _ app1 c.in_ok-app-3.ensures in
     let app3 = with_more c.in_ok-app-3.app c.in_ok-app-4.app _ app2 c.in_ok-app-4.ensures in
     let app4 = with_more c.in_ok-app-4.app c.in_ok-app-5.app _ app3 c.in_ok-app-5.ensures in
-    IfOk-weaker c.with_command-5.result _ _ (λ new adds. with_more c.in_ok-app-5.app new _ app4 adds) c.with_command-5.ensures
+    let app5 = with_more c.in_ok-app-5.app c.in_ok-app-6.app _ app4 c.in_ok-app-6.ensures in
+    IfOk-weaker c.with_command-6.result _ _ (λ new adds. with_more c.in_ok-app-6.app new _ app5 adds) c.with_command-6.ensures
