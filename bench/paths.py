@@ -50,13 +50,13 @@ class Paths:
         after = Path(file).read_bytes() if Path(file).is_file() else None
         self.judge(right and before == after, words, (status, output, faults, before == after))
 
-    def is_sound(self, what, file, before=""):
+    def is_sound(self, what, file, before="", plain=False):
         """A library is sound: one deck, two cards, one run."""
-        self.judge_sound(what, file, f"{before}sound: decks 1, cards 2, runs 1")
+        self.judge_sound(what, file, f"{before}sound: decks 1, cards 2, runs 1", plain)
 
-    def judge_sound(self, what, file, line):
+    def judge_sound(self, what, file, line, plain=False):
         """A library is sound, with this line, and then the bytes of its replies and of its file."""
-        status, output, faults = said(self.upd, file)
+        status, output, faults = said(self.upd, file, plain)
         size = re.fullmatch(re.escape(line) + r", replies [1-9]\d*, file (\d+)\n", output)
         self.judge(status == 0 and size and int(size[1]) == Path(file).stat().st_size and not faults, what, (status, output, faults))
 
@@ -114,9 +114,9 @@ def try_use(paths):
     paths.judge_sound("after the spool", file, "sound: decks 2, cards 4, runs 2")
 
 
-def try_log(paths):
-    """A library whose last run is only in its log, since the spool was killed. The log stays."""
-    file = paths.path("log.db")
+def logged(paths, name):
+    """A library whose last run is only in its log, since the spool was killed."""
+    file = paths.path(name)
     subprocess.run([paths.upd, "init", file], check=True)
     with subprocess.Popen([paths.upd, "spool", file], stdin=subprocess.PIPE, stdout=subprocess.PIPE) as spool:
         run = b"*DECK A\nONE\n"
@@ -124,11 +124,49 @@ def try_log(paths):
         spool.stdin.flush()
         spool.stdout.readline()
         spool.kill()
+    return file, paths.path(f"{name}-wal")
+
+
+def try_log(paths):
+    """A log with a commit, beside its library and alone. It stays."""
+    file, _ = logged(paths, "log.db")
     before = file.read_bytes()
     for _ in range(2):
         paths.is_sound("a log with frames", file, before=LOG)
         time.sleep(0.1)
     paths.judge(file.read_bytes() == before, "the file is left as it was beside a log", "")
+    file.rename(paths.path("moved.db"))
+    paths.is_said(file, "beside a log")
+
+
+def try_folders(paths):
+    """A folder that everybody may write, and one that is sticky too."""
+    place = paths.path("open")
+    place.mkdir()
+    file = paths.library("open/open.db")
+    os.chmod(place, 0o777)
+    paths.is_said(file, "everybody may write its folder")
+    ended = subprocess.run([paths.upd, "init", "new.db"], cwd=place, capture_output=True, text=True, check=False)
+    right = (ended.returncode, ended.stderr) == (3, "upd: Store (29) at 0\n") and not (place / "new.db").exists()
+    paths.judge(right, "init in such a folder", ended)
+    os.chmod(place, 0o1777)
+    paths.is_sound("a sticky folder", file)
+
+
+def try_owners(paths):
+    """A log with a commit of another user, and then of the user at work, of the file's owner, and of root. Only root can change owners."""
+    if os.geteuid() != 0:
+        return
+    file, log = logged(paths, "owners.db")
+    os.chmod(file, 0o666)
+    os.chmod(log, 0o666)
+    os.chown(log, NOBODY, NOBODY)
+    paths.is_said(file, "is another user's")
+    paths.is_sound("a log of the user at work", file, before=LOG, plain=True)
+    os.chown(file, NOBODY, NOBODY)
+    paths.is_sound("a log of the file's owner", file, before=LOG)
+    os.chown(log, 0, 0)
+    paths.is_sound("a log of root", file, before=LOG, plain=True)
 
 
 def try_damage(paths):
@@ -176,7 +214,7 @@ def try_paths(upd, folder):
     shutil.copyfile(upd, command)
     os.chmod(command, 0o755)
     paths = Paths(str(command), place)
-    for part in (try_no_database, try_rights, try_use, try_log, try_damage, try_schemas):
+    for part in (try_no_database, try_rights, try_use, try_log, try_folders, try_owners, try_damage, try_schemas):
         part(paths)
     print(f"{paths.count} situations of a path, {paths.bad} of them wrong")
     return paths.bad

@@ -6,9 +6,9 @@ use Rattle.sqlite.specs.declared.error.ErrorCode.TheVariants as code
 use Rattle.sqlite.specs.declared.error.Error.{Error}
 use Rattle.sqlite.specs.declared.error.Error.TheVariants.{SqliteFailure}
 use Rattle.upd_keep.specs.declared.situation.Situation.{Situation}
-use Rattle.upd_keep.specs.declared.situation.Situation.TheVariants.{LogAlone, NoFile, Folder, NotRegular, SecondName, Empty, NotSqlite, NoPermission}
-use Rattle.upd_keep.specs.declared.situation.Situation.TheVariants.{ReadOnly, CannotOpen, InUse, Damaged, BreaksRules, NotLibrary, OlderSchema, OtherTables}
-use Rattle.upd_keep.specs.declared.situation.Situation.TheVariants.{Unreadable, NewerSchema}
+use Rattle.upd_keep.specs.declared.situation.Situation.TheVariants.{LogAlone, NoFile, Folder, NotRegular, SecondName, OpenFolder, ForeignLog, Empty}
+use Rattle.upd_keep.specs.declared.situation.Situation.TheVariants.{NotSqlite, NoPermission, ReadOnly, CannotOpen, InUse, Damaged, BreaksRules, NotLibrary}
+use Rattle.upd_keep.specs.declared.situation.Situation.TheVariants.{OlderSchema, OtherTables, Unreadable, NewerSchema}
 
 -- what there is, and what to do
 abbrev pub words_of : Situation → List ℕ
@@ -17,6 +17,8 @@ words_of NoFile = codes "there is no such file: check the path; `upd init` makes
 words_of Folder = codes "this is a folder, not a file: check the path"
 words_of NotRegular = codes "this is no regular file: check the path"
 words_of SecondName = codes "the file has a second name, a hard link: remove that name, or make it a copy"
+words_of OpenFolder = codes "everybody may write its folder, and so put another file or log there: `chmod o-w` or `chmod +t` on the folder"
+words_of ForeignLog = codes "the log beside it, FILE-wal, is another user's, who may be at work: let that user run `upd spool FILE </dev/null`, or move it away"
 words_of Empty = codes "the file is empty: `upd init` makes a library in it"
 words_of NotSqlite = codes "this is not a database of SQLite: check the path"
 words_of NoPermission = codes "no permission to read it: let the user read and write the file and its folder"

@@ -7,7 +7,7 @@ use std::fs::OpenOptions;
 use std::io::{ErrorKind, Read};
 use std::os::unix::fs::MetadataExt;
 use std::{fs, io};
-use upd_store::is_log_alone;
+use upd_store::{is_foreign_log, is_log_alone, is_open_folder};
 
 /// The first bytes of each file of SQLite.
 const FIRST_BYTES: &[u8; 16] = b"SQLite format 3\0";
@@ -28,13 +28,21 @@ pub(crate) fn situation_at(rt: &HostRuntime, path: &str) -> Option<Situation> {
     }
 }
 
-/// Why the file at a path is none that can be a library; None where it may be one.
+/// Why the file at a path is none that can be a library, or another user could put commits into it; None where neither is
+/// so.
 fn kind_of(rt: &HostRuntime, path: &str) -> io::Result<Option<Situation>> {
     let found = fs::metadata(rt, path)?;
-    Ok(of_kind(found.is_dir(), found.is_file(), found.nlink(), found.len()))
+    let kind = of_kind(found.is_dir(), found.is_file(), found.nlink(), found.len());
+    Ok(match kind {
+        None | Some(Situation::Empty) if is_open_folder(rt, path).unwrap_or(false) => {
+            Some(Situation::OpenFolder)
+        }
+        None if is_foreign_log(rt, path).unwrap_or(false) => Some(Situation::ForeignLog),
+        _ => kind,
+    })
 }
 
-/// The same of what has this number of names and of bytes.
+/// Why there can be no library in what has this number of names and of bytes.
 fn of_kind(is_folder: bool, is_file: bool, names: u64, length: u64) -> Option<Situation>
     ensures { result ≡ situation_of_kind is_folder is_file names length }
 {

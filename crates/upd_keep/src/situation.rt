@@ -12,6 +12,8 @@ pub enum Situation {
     Folder,
     NotRegular,
     SecondName,
+    OpenFolder,
+    ForeignLog,
     Empty,
     NotSqlite,
     NoPermission,
@@ -42,6 +44,12 @@ impl Situation {
             Situation::NotRegular => "this is no regular file: check the path",
             Situation::SecondName => {
                 "the file has a second name, a hard link: remove that name, or make it a copy"
+            }
+            Situation::OpenFolder => {
+                "everybody may write its folder, and so put another file or log there: `chmod o-w` or `chmod +t` on the folder"
+            }
+            Situation::ForeignLog => {
+                "the log beside it, FILE-wal, is another user's, who may be at work: let that user run `upd spool FILE </dev/null`, or move it away"
             }
             Situation::Empty => "the file is empty: `upd init` makes a library in it",
             Situation::NotSqlite => "this is not a database of SQLite: check the path",

@@ -19,6 +19,7 @@ ghost use Rattle.upd_sql.specs.LibraryTables.{ShowsTables};
 ghost use Rattle.upd_store.specs.Beginning.{MayBegin};
 ghost use Rattle.upd_store.specs.Faults.{IsUnopened};
 
+use crate::exposure::is_exposed;
 use crate::log_file::is_log_alone;
 use crate::sql_store::SqlStore;
 use crate::store_faults::{fault_of, no_memory, store_at};
@@ -43,7 +44,8 @@ impl<S: Start> SqlStore<FileStore<FileFrom<S>>> {
     ///
     /// Where the file holds no library the fault is Store, at the version in the file, 0 where it has none. No byte of
     /// it is changed then, and a file that does not exist is not made. The fault is Store at 0, too, where the file may not
-    /// be read and written, where another program has it open, and where it is damaged. Out of memory is NoMemory at 0.
+    /// be read and written, where another program has it open, where another user could put commits into it (`exposure`),
+    /// and where it is damaged. Out of memory is NoMemory at 0.
     pub fn open(
         rt: &HostRuntime,
         path: &str,
@@ -66,8 +68,9 @@ impl<S: Start> SqlStore<FileStore<FileFrom<S>>> {
 
 /// Makes an empty library in a file, and the file where it doesn't exist, with mode 0600. Where the file has any table the fault is Store,
 /// at the version in the file, 0 where it has none, and no byte of it is changed. An empty file, or one in which this
-/// call was cut off, counts as no file. Where there is no file and the log beside the path has frames, the fault is Store
-/// at 0, and no byte changes. Out of memory is NoMemory at 0.
+/// call was cut off, counts as no file. Where there is no file and the log beside the path has frames, and where another
+/// user could put commits into the library (`exposure`), the fault is Store at 0, and no byte changes. Out of memory is
+/// NoMemory at 0.
 pub fn create<S: Start>(rt: &HostRuntime, path: &str, start: S) -> Result<FileLibrary<S>, Fault>
     ensures shows { IfOk result (λ s. HasCleanDisk (file_state s.conn)
         → IsTrue (file_state s.conn).is_open × ShowsTables no_rows (file_state s.conn).committed) }
@@ -77,6 +80,7 @@ pub fn create<S: Start>(rt: &HostRuntime, path: &str, start: S) -> Result<FileLi
     ensures unopened { IfErr result IsUnopened }
 {
     spare_log(rt, path)?;
+    refuse_exposed(rt, path)?;
     make_private(rt, path);
     let conn = connect_or_make(rt, path, false, start)?;
     match initialized(conn) {
@@ -93,6 +97,18 @@ fn spare_log(rt: &HostRuntime, path: &str) -> Result<(), Fault>
         Ok(false) => Ok(()),
         Err(error) if error.kind() == io::ErrorKind::OutOfMemory => Err(no_memory()),
         _ => Err(store_at(0)),
+    }
+}
+
+/// Store at 0 where another user could put commits into the library at a path. Where that can't be found out, the open that
+/// follows says why.
+fn refuse_exposed(rt: &HostRuntime, path: &str) -> Result<(), Fault>
+    ensures lost { IfErr result IsLost }
+{
+    match is_exposed(rt, path) {
+        Ok(true) => Err(store_at(0)),
+        Err(error) if error.kind() == io::ErrorKind::OutOfMemory => Err(no_memory()),
+        _ => Ok(()),
     }
 }
 
@@ -154,8 +170,8 @@ pub fn close<D: Disk + Drop>(library: SqlStore<FileStore<D>>) -> Result<Files<D>
     }
 }
 
-/// A connection to a file of SQLite, whatever its tables are. Where it is not such a file the fault is Store at 0. A
-/// file that does not exist is not made.
+/// A connection to a file of SQLite, whatever its tables are. Where it is not such a file, or where another user could put
+/// commits into it, the fault is Store at 0. A file that does not exist is not made.
 pub fn connect<S: Start>(
     rt: &HostRuntime,
     path: &str,
@@ -192,6 +208,7 @@ fn connect_or_make<S: Start>(
     ensures found { IfOk result (λ c. HasCleanDisk (file_state c) → FindsIn (image_at S.Start) (file_state c)) }
     ensures lost { IfErr result IsLost }
 {
+    refuse_exposed(rt, path)?;
     match Connection::open_from(rt, path, new_has_sums, start) {
         Ok(conn) => Ok(conn),
         Err((error, _)) => Err(fault_of(error)),

@@ -1,6 +1,7 @@
 //! The stores of a library's file: over a connection of SQLite, and, for reading, over the trees below SQL.
 #![tactic(auto)]
 
+mod exposure;
 pub mod file;
 mod log_file;
 mod row_store;
@@ -14,6 +15,7 @@ mod tree_records;
 mod tree_store;
 mod version;
 
+pub use exposure::{is_foreign_log, is_open_folder};
 pub use log_file::{has_frames, is_log_alone};
 pub use sql_store::SqlStore;
 pub use store_faults::{fault_of, no_memory, refused, store_at};

@@ -8,8 +8,12 @@ const SHORTEST_LOG: u64 = 32 + 24 + 512;
 
 /// Whether the log beside a file has frames, so that the file by itself may lack commits. The file may be missing.
 pub fn has_frames(rt: &HostRuntime, path: &str) -> io::Result<bool> {
-    let log = format!(in rt.alloc(); "{}-wal", real_path(rt, path)?.as_str())?;
-    Ok(length_of(rt, log.as_str())? >= SHORTEST_LOG)
+    Ok(length_of(rt, log_path(rt, path)?.as_str())? >= SHORTEST_LOG)
+}
+
+/// The path of the log beside a file.
+pub(crate) fn log_path(rt: &HostRuntime, path: &str) -> io::Result<String> {
+    Ok(format!(in rt.alloc(); "{}-wal", real_path(rt, path)?.as_str())?)
 }
 
 /// Whether there is no file at a path, or an empty one, and the log beside it has frames. They are of a library that was
@@ -23,7 +27,7 @@ pub fn is_log_alone(rt: &HostRuntime, path: &str) -> io::Result<bool> {
 }
 
 /// The path where a link leads, or the path as it is where there is no file.
-fn real_path(rt: &HostRuntime, path: &str) -> io::Result<String> {
+pub(crate) fn real_path(rt: &HostRuntime, path: &str) -> io::Result<String> {
     match fs::canonicalize(rt, path) {
         Ok(real) => Ok(String::from_str(rt.alloc(), real.as_str())?),
         Err(error) if is_missing(error.kind()) => Ok(String::from_str(rt.alloc(), path)?),

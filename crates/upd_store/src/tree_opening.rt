@@ -12,6 +12,7 @@ ghost use Rattle.sqlite_wal.specs.Files.{image_at};
 ghost use Rattle.upd_store.specs.TreeReads.{IsLibrary};
 ghost use Rattle.upd_store.specs.TreeOpening.{FindsTrees, IsAttached};
 
+use crate::exposure::is_exposed;
 use crate::file::begins_as_database;
 use crate::tree_store::TreeStore;
 use sqlite::{FileFrom, FileStore, Files, Start};
@@ -39,7 +40,7 @@ impl<St: Start> TreeStore<FileStore<FileFrom<St>>> {
             → FindsTrees (image_at St.Start) (view s.store).committed) }
         ensures ours { IfSome result (λ s. IsClean (view s.store) → IsLibrary (view s.store).committed) }
     {
-        if is_no_path(path) || !begins_as_database(rt, path).ok()? {
+        if is_no_path(path) || is_exposed(rt, path).ok()? || !begins_as_database(rt, path).ok()? {
             return None;
         }
         let Ok(files) = sqlite_std_file::open(rt, path, start) else {
