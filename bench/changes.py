@@ -1,8 +1,8 @@
 """Changes of a library's tables by hand, each of which breaks a rule of the library.
 
 A change is picked by one row, by its rowid, and is one statement. `why` is the rule that it breaks, whatever else the library has. Left out is what breaks no
-rule: another text of a card that a line can have, another order of cards in a deck but for its first, a common deck for a deck, NOPROP, a stored run or a mark that is lost, a mark
-that is lowered but not to 0, other bytes of a run, and other bytes in the middle of a reply.
+rule: another text of a card that a line can have, another order of the cards of sets, a common deck for a deck, NOPROP, a stored run or a mark that is lost,
+a mark that is lowered but not to 0, other bytes of a run, and other bytes in the middle of a reply.
 
 A change is found with status 1, or with 3 where a row can't be read as a row of a library, or where the tables are not those of the schema.
 """
@@ -19,6 +19,7 @@ HAS_CARDS = "EXISTS (SELECT 1 FROM cards c WHERE c.ident = t.name)"
 NOT_LAST = "t.pos < (SELECT max(pos) FROM cards c WHERE c.deck = t.deck)"
 OTHER_DECK = "(SELECT age FROM idents i WHERE i.held = 1 AND i.kind <> 0 AND i.age <> {0}.deck ORDER BY age LIMIT 1)"
 OTHER_HELD = "(SELECT age FROM idents i WHERE i.held = 1 AND i.age <> {0}.who ORDER BY age LIMIT 1)"
+YOUNGEST = "(SELECT max(age) FROM idents WHERE held = 1)"
 UNSETTLED = "site NOT IN (SELECT site FROM settled)"
 
 UNREADABLE = "a number, a kind or a name that no row has"
@@ -32,6 +33,9 @@ OWN_REPLY = "a stored reply begins and ends as one to its run"
 OF_A_LINE = "the text of a card has at most 80 bytes, printable ASCII or tabs"
 OWN_SITE = "a site is 1 to 8 of A-Z and 0-9"
 OWN_NUMBER = "a run's number is 1 to 999,999,999"
+OWN_ORDER = "a deck's own cards are numbered 1, 2, .. in order"
+IN_ORDER = "the entries behind a card's first are in order of their idents"
+IS_OWN = "{0}.ident = (SELECT name FROM idents i WHERE i.age = {0}.deck)"
 
 META = [
     Change("meta", "a newer version", "FROM meta t", "UPDATE meta SET v = 4 WHERE rowid = ?1", 3, "the schema is the third"),
@@ -93,6 +97,9 @@ CARDS = [
     Change("cards", "a text with a byte that is not ASCII", "FROM cards t", "UPDATE cards SET body = 'CAF\u00c9' WHERE rowid = ?1", 1, OF_A_LINE),
     Change("cards", "a text with a line end", "FROM cards t", "UPDATE cards SET body = 'ONE' || char(10) || 'TWO' WHERE rowid = ?1", 1, OF_A_LINE),
     Change("cards", "a row lost", "FROM cards t", "DELETE FROM cards WHERE rowid = ?1", 1, CARD_OF),
+    Change("cards", "the place of the next card of its deck", f"FROM cards t JOIN cards c ON c.deck = t.deck AND c.pos = t.pos + 1 WHERE t.pos > 0 AND "
+           f"{IS_OWN.format('t')} AND {IS_OWN.format('c')}", "UPDATE cards SET pos = 2 * (SELECT pos FROM cards WHERE rowid = ?1) + 1 - pos WHERE deck = "
+           "(SELECT deck FROM cards WHERE rowid = ?1) AND pos - (SELECT pos FROM cards WHERE rowid = ?1) IN (0, 1)", 1, OWN_ORDER),
     Change("cards", "a row added", "FROM cards t", "INSERT INTO cards SELECT ident, num + 100000, deck, "
            "(SELECT max(pos) + 1 FROM cards c WHERE c.deck = cards.deck), body FROM cards WHERE rowid = ?1", 1, "each card has a history"),
 ]
@@ -117,6 +124,11 @@ ENTRIES = [
            "INSERT INTO entries SELECT 'NOBODY99', num, ord, who, active FROM entries WHERE rowid = ?1", 1, CARD_OF),
     Change("entries", "a row added after a gap", "FROM entries t",
            "INSERT INTO entries SELECT ident, num, ord + 100000, who, active FROM entries WHERE rowid = ?1", 1, NO_HOLES),
+    Change("entries", "a row added to a first card", "FROM entries t JOIN cards c ON c.ident = t.ident AND c.num = t.num WHERE c.pos = 0 AND c.deck <> 0",
+           "INSERT INTO entries SELECT ident, num, ord + 1, who, active FROM entries WHERE rowid = ?1", 1, "no run switches a deck's first card"),
+    Change("entries", "one between others of the youngest ident", f"FROM entries t WHERE ord > 0 AND ord < {LAST_OF.format('entries')} AND "
+           f"(SELECT who FROM entries o WHERE o.ident = t.ident AND o.num = t.num AND o.ord = t.ord + 1) < {YOUNGEST}",
+           f"UPDATE entries SET who = {YOUNGEST} WHERE rowid = ?1", 1, IN_ORDER),
     Change("entries", "the last one switched, without yanks",
            f"FROM entries t WHERE ord > 0 AND ord = {LAST_OF.format('entries')} AND NOT EXISTS (SELECT 1 FROM targets)",
            "UPDATE entries SET active = 1 - active WHERE rowid = ?1", 1, OWN_STATUS),

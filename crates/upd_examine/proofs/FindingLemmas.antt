@@ -8,6 +8,7 @@ use Rattle.std.proofs.lemmas.List.Sums.{sum_by-cons}
 use Rattle.upd_text.specs.declared.limits.TheConstants.{MAX_CARDS, MAX_ENTRIES, MAX_HELD, MAX_INTRODUCED, MAX_TARGETS}
 use Rattle.upd_core.specs.Limits.{card_count, entry_count, held_count, target_count}
 use Rattle.upd_records.specs.Rows.{Shows}
+use Rattle.upd_examine.specs.Grown.{is_grown}
 
 -- the cards of `YANK$$$` are few
 few_yanks : (l : LibraryView) → is_within_limits l ≡ true → length l.yanks < 2 ^ 32
@@ -47,22 +48,25 @@ shows_own l = record {
   targets = same_of (rows_of l).targets (rows_of l).targets refl;
 }
 
-pub sound_decided : (rows copy : LibraryRows) (states : States) (runs : List RunView) (marks : List MarkRow) (l : LibraryView) (a b c : Bool)
+pub sound_decided : (rows copy : LibraryRows) (states : States) (runs : List RunView) (marks : List MarkRow) (l : LibraryView) (a g b c : Bool)
     → AreCopies rows copy → ((tables : Rows) (k : LibraryView) → IsSound k → IsWhole k → Shows tables k → AreRowsOf tables copy → l ≡ k)
-    → (IsTrue a ↔ AreLibraryRows rows l) → (IsSound l → length l.yanks < 2 ^ 32 → IsTrue b ↔ AreStatesOf states l)
-    → (IsTrue c ↔ AreRunsSound runs marks) → IsTrue (a && (b && c)) ↔ AreSoundRows rows states runs marks
-sound_decided rows copy states runs marks l a b c same whole own right kept = (
+    → (IsTrue a ↔ AreLibraryRows rows l) → g ≡ is_grown l → (IsSound l → length l.yanks < 2 ^ 32 → IsTrue b ↔ AreStatesOf states l)
+    → (IsTrue c ↔ AreRunsSound runs marks) → IsTrue (a && (g && (b && c))) ↔ AreSoundRows rows states runs marks
+sound_decided rows copy states runs marks l a g b c same whole own grown right kept = (
   (λ t.
-      let p = and_parts a (b && c) t in
-      let q = and_parts b c p.1 in
+      let p = and_parts a (g && (b && c)) t in
+      let h = and_parts g (b && c) p.1 in
+      let q = and_parts b c h.1 in
       let is = own.0 p.0 in
-      record { library = l; own = is; statuses = (right is.sound (few_yanks l is.limits)).0 q.0; stored = kept.0 q.1 }),
+      record { library = l; own = is; grown = sym grown ∙ h.0; statuses = (right is.sound (few_yanks l is.limits)).0 q.0; stored = kept.0 q.1 }),
   (λ are.
       let k = are.library in
       let one : l ≡ k = whole (rows_of k) k are.own.sound are.own.whole (shows_own k) (copied (rows_of k) rows copy same are.own.own) in
       let is : AreLibraryRows rows l = subst (AreLibraryRows rows) (sym one) are.own in
       let states_are : AreStatesOf states l = subst (AreStatesOf states) (sym one) are.statuses in
-      and_from a (b && c) (own.1 is) (and_from b c ((right is.sound (few_yanks l is.limits)).1 states_are) (kept.1 are.stored))),
+      let grown_is : is_grown l ≡ true = subst (λ v. is_grown v ≡ true) (sym one) are.grown in
+      and_from a (g && (b && c)) (own.1 is) (and_from g (b && c) (grown ∙ grown_is)
+      (and_from b c ((right is.sound (few_yanks l is.limits)).1 states_are) (kept.1 are.stored)))),
 )
 
 -- a text that is empty exactly where a test is passed is empty exactly where that holds which the test decides

@@ -9,6 +9,7 @@ use Rattle.upd_records.specs.declared.rows.LibraryRows.{LibraryRows}
 use Rattle.upd_row_store.specs.Assembling.{AreRowsOf}
 use Rattle.upd_laws.specs.ReadRuns.{HasLineTexts}
 use Rattle.upd_yank.specs.Right.{AreStatesOf}
+use Rattle.upd_examine.specs.Grown.{is_grown}
 use Rattle.upd_examine.specs.RunForms.{AreRunsSound}
 
 -- Rows are exactly those of a library, which is sound, whole and within its limits. Its names, texts and numbers are those of runs.
@@ -19,9 +20,10 @@ pub record AreLibraryRows (rows : LibraryRows) (l : LibraryView) : Type 0 where
   pub texts : HasLineTexts l
   pub own : AreRowsOf (rows_of l) rows
 
--- Some library has these rows, statuses and counts; stored runs and marks are right.
+-- Some library has these rows, statuses and counts, and is as runs leave one; stored runs and marks are right.
 pub record AreSoundRows (rows : LibraryRows) (states : States) (runs : List RunView) (marks : List MarkRow) : Type 0 where
   pub library : LibraryView
   pub own : AreLibraryRows rows library
+  pub grown : is_grown library ≡ true
   pub statuses : AreStatesOf states library
   pub stored : AreRunsSound runs marks

@@ -1,4 +1,5 @@
 pub mod SoundTests
+pub mod Grown
 pub mod Whole
 pub mod RowKeys
 pub mod TextTests

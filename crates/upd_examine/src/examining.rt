@@ -21,7 +21,7 @@ use upd_row_store::assembled;
 use upd_yank::Cache;
 
 /// What is wrong with the rows of a library, a line each, at most 100 lines. The text is empty exactly where some sound,
-/// whole library has these rows. Which lines there are is tested, and no clause says it.
+/// whole library, as runs leave one, has these rows. Which lines there are is tested, and no clause says it.
 pub fn findings(
     alloc: Global,
     rows: &LibraryRows,

@@ -6,6 +6,7 @@ mod conjunctions;
 mod copies;
 mod differing;
 pub mod examining;
+mod grown;
 pub mod line_texts;
 mod lines;
 pub mod own_rows;

@@ -5,8 +5,9 @@ ghost use Rattle.upd_text.specs.Faults.{fault_at};
 ghost use Rattle.upd_text.specs.declared.fault.FaultKind.TheVariants.{NoMemory};
 ghost use Rattle.upd_examine.specs.Findings.{AreSoundRows};
 
-use crate::conjunctions::three_hold;
+use crate::conjunctions::four_hold;
 use crate::copies::copy_rows;
+use crate::grown::is_grown;
 use crate::same_rows::are_library_rows;
 use crate::stored_runs::are_runs_sound;
 use crate::stored_states::are_states_of;
@@ -15,7 +16,8 @@ use upd_core::{Fault, States};
 use upd_records::{LibraryRows, MarkRow, RunRow};
 use upd_row_store::assembled;
 
-/// Whether some sound, whole library has exactly these rows, statuses and counts, and stored runs and marks are right.
+/// Whether some sound, whole library, as runs leave one, has exactly these rows, statuses and counts, and stored runs and
+/// marks are right.
 /// The only error is NoMemory.
 pub fn are_sound_rows(
     alloc: Global,
@@ -30,7 +32,8 @@ pub fn are_sound_rows(
     let copy = copy_rows(alloc, rows)?;
     let library = assembled(alloc, copy)?;
     let own = are_library_rows(alloc, &library, rows)?;
+    let grown = is_grown(&library);
     let right = are_states_of(alloc, &library, states)?;
     let kept = are_runs_sound(alloc, runs, marks)?;
-    Ok(three_hold(own, right, kept))
+    Ok(four_hold(own, grown, right, kept))
 }

@@ -1,5 +1,6 @@
 //! What is not sound in a library, each at the card, the deck or the ident where it is.
 
+use crate::grown::{has_entries_in_order, is_begun_once, is_numbered};
 use crate::line_texts::is_valid_name;
 use crate::lines::Findings;
 use crate::row_texts::{card_text, name_text};
@@ -51,7 +52,8 @@ fn add_card(
 ) -> Result<(), AllocError> {
     let of_held = is_of_held(idents, card);
     let begins = begins_on(card);
-    if of_held && begins {
+    let ordered = has_entries_in_order(card);
+    if of_held && begins && ordered {
         return Ok(());
     }
     let name = card_text(alloc, &card_ref(idents, card))?;
@@ -66,6 +68,9 @@ fn add_card(
             &row,
             " has a history that does not begin with its own ident, switched on",
         )?;
+    }
+    if !ordered {
+        found.add_of(&row, " has entries that are not in order of their idents")?;
     }
     Ok(())
 }
@@ -94,6 +99,15 @@ fn add_deck(
     let row = format!(in alloc; "decks {}", deck.ident)?;
     if !begins_with_its_own(deck) {
         found.add_of(&row, " does not begin with card 1 of its own ident")?;
+    }
+    if !is_begun_once(deck) {
+        found.add_of(&row, " has a first card that was switched")?;
+    }
+    if !is_numbered(deck) {
+        found.add_of(
+            &row,
+            " has cards of its own ident that are not numbered 1, 2 and so on",
+        )?;
     }
     if !has_no_targets(deck) {
         found.add_of(&row, " has a card with targets")?;
