@@ -21,8 +21,10 @@
 #                   byte for byte. A CR at the end of a line is then noted, and left out.
 #     --c           with --list: the files are C, and are made to fit. A line that a run would take for a comment, a directive or
 #                   a call, as `*/`, is indented by a blank. A line of more than 80 bytes is cut by a backslash and a line end,
-#                   which C puts together again. A form feed becomes a blank. A file with a raw string, as R"(..)", is left as
-#                   it is.
+#                   which C puts together again. A form feed becomes a blank. Any other byte that no card has becomes a
+#                   backslash and three octal digits, as C writes it in a string. A file with a raw string, as R"(..)", is left
+#                   as it is. So are the bytes of a file that has a NUL, a backslash before such a byte, or such a byte in a line
+#                   with a wide or Unicode literal, as L"..".
 #
 # Before the spool is written, it is tried on an empty library: tree.sh, from this script's folder, writes each file back, and
 # each is compared with its source.
@@ -109,12 +111,33 @@ wanted_name() {
     printf '%s\n' "${base%%.*}" | tr '[:lower:]' '[:upper:]' | tr -c 'A-Z0-9+*/()$=\n-' '-' | cut -c 1-9 | sed 's/^$/-/'
 }
 
+# `bytes`, and the octal codes of the bytes that no card has, but for those whose escapes the file has too. Nothing where it has
+# no such byte, or escapes can't stand for them.
+byte_codes() {
+    if [ $(($(tr -dc '\000' <"$1" | wc -c))) -gt 0 ]; then return; fi
+    awk '
+        BEGIN { for (i = 1; i < 256; i++) code[sprintf("%c", i)] = sprintf("%03o", i) }
+        {
+            sub(/\r$/, "")
+            if (/\\[^\t\f -~]/ || (/[^\t\f -~]/ && /(^|[^A-Za-z0-9_])(L|U|u8?)["\047]/)) clash = 1
+            for (text = $0; match(text, /[^\t\f -~]|\\(\\|[0-3][0-7][0-7])/); text = substr(text, RSTART + RLENGTH))
+                if (RLENGTH == 1) needed[code[substr(text, RSTART, 1)]]; else own[substr(text, RSTART + 1, 3)]
+        }
+        END {
+            for (octal in needed) all = "bytes"
+            for (i = 1; i < 256; i++) if ((octal = sprintf("%03o", i)) in needed && !(octal in own)) all = all " " octal
+            if (!clash) print all
+        }' <"$1"
+}
+
 # Writes the lines of a file as cards, what was changed in them, and for each card its line in the file and the bytes before it.
 # A CR that can't be noted is doubled, and a NUL is another control byte, so that both are found as bytes that no line has.
 convert() {
-    filter=$c
+    filter=$c codes=''
     if grep -qE '(^|[^A-Za-z0-9_])(u8|[uUL])?R"[^() \"]{0,16}[(]' <"$1"; then filter=''; fi
-    tr '\000' '\001' <"$1" | cards=$work/cards notes=$work/notes map=$work/map awk -v filter="$filter" -v keep_cr="${list:+1}" '
+    if [ -n "$filter" ]; then codes=$(byte_codes "$1") || exit 3; fi
+    tr '\000' '\001' <"$1" | cards=$work/cards notes=$work/notes map=$work/map \
+        awk -v filter="$filter" -v codes="$codes" -v keep_cr="${list:+1}" '
         function note(kind, item) {
             if (length(line_of[kind]) + length(item) > 79) { print line_of[kind] > notes; line_of[kind] = "" }
             line_of[kind] = (line_of[kind] == "" ? kind : line_of[kind]) " " item
@@ -124,14 +147,24 @@ convert() {
             return text ~ /^\*(\/|(IDENT|ID|DECK|DK|COMDECK|CD|INSERT|I|BEFORE|B|DELETE|D|RESTORE|R|CALL|CA|YANK|Y)([ ,]|$))/ \
                 || text ~ /^\*(SELYANK|YANKDECK|PURGE|SELPURGE|PURDECK|COMPILE|C)([ ,]|$)/
         }
+        function is_bad_cut(text, size) {
+            return substr(text, size, 1) ~ /[?\\]/ || substr(text, size - 2, 6) ~ /\\[0-3][0-7][0-7]/ \
+                || is_special(substr(text, size + 1))
+        }
         BEGIN {
             cards = ENVIRON["cards"]; notes = ENVIRON["notes"]; map = ENVIRON["map"]
             printf "" > cards; printf "" > notes; printf "" > map
+            for (i = 1; i < 256; i++) octal[sprintf("%c", i)] = sprintf("%03o", i)
         }
         {
             text = $0; first = count + 1; before = 0
-            if (!keep_cr) sub(/\r$/, "\r\r", text)
-            else if (sub(/\r$/, "", text)) with_cr[++crs] = first
+            if (keep_cr && sub(/\r$/, "", text)) with_cr[++crs] = first
+            while (codes != "" && match(text, /[^\t\f -~]/)) {
+                code = octal[substr(text, RSTART, 1)]
+                if (!index(codes, code)) note("byte", first ":" RSTART)
+                text = substr(text, 1, RSTART - 1) "\\" code substr(text, RSTART + 1)
+            }
+            sub(/\r$/, "\r\r", text)
             while (filter && match(text, /\f/)) {
                 note("feed", first ":" RSTART)
                 text = substr(text, 1, RSTART - 1) " " substr(text, RSTART + 1)
@@ -140,7 +173,7 @@ convert() {
             if (filter && is_special(text)) { note("indent", first); text = " " text; before = -1 }
             while (filter && length(text) > 80) {
                 size = 79
-                while (size > 1 && (substr(text, size, 1) == "?" || is_special(substr(text, size + 1)))) size--
+                while (size > 1 && is_bad_cut(text, size)) size--
                 put(substr(text, 1, size) "\\")
                 text = substr(text, size + 1); before += size
             }
@@ -150,6 +183,8 @@ convert() {
         END {
             if (crs == NR && NR) note("cr", "all")
             else for (i = 1; i <= crs; i++) note("cr", with_cr[i])
+            size = split(codes, listed, " ")
+            for (i = 2; i <= size; i++) note("bytes", listed[i])
             for (kind in line_of) if (line_of[kind] != "") print line_of[kind] > notes
         }' || exit 3
     if [ -n "$(tail -c 1 <"$1")" ]; then echo "open $(($(wc -l <"$work/cards")))" >>"$work/notes"; fi

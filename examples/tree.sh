@@ -9,7 +9,7 @@
 # A file gets the active cards of its deck, with calls as they are. What bring.sh changed in a line is undone as long as the card
 # of that line is active: so a file whose deck was not corrected is the file that it was, byte for byte. A line that was cut is
 # put together again where all its cards are active, one after the other; else it stays cut, as C allows it. Lines that came
-# later are as they are in the library, but with a CR where each line of the file had one.
+# later are as they are in the library, but with a CR where each line of the file had one, and with the bytes that `bytes` lists.
 #
 # LIST has these lines, of at most 80 bytes. A deck that came later needs the first two only, written by hand. N is the number of
 # a line as it was brought in.
@@ -23,6 +23,8 @@
 #     indent N ..          lines that were indented by a blank
 #     cut N:COUNT ..       a line that was cut into COUNT cards
 #     open N               the last line, where it had no line end
+#     bytes OOO ..         octal codes: the escape \OOO is that byte in each line, also in those that came later
+#     byte N:COLUMN ..     another byte, where the card has its escape
 #
 # Exit status:
 #   0  the files are written
@@ -50,12 +52,14 @@ mkdir -- "$folder" || exit 3
 # The lines of the file, from the notes of a deck and its listing.
 restore() {
     awk -v deck="$1" '
+        BEGIN { for (i = 1; i < 256; i++) byte[sprintf("%03o", i)] = sprintf("%c", i) }
         FNR == NR && $1 == "part" { start[$2] = $3; next }
         FNR == NR && $1 == "cr" && $2 == "all" { all_cr = 1; next }
         FNR == NR {
             for (i = 2; i <= NF; i++) {
                 split($i, item, ":")
                 if ($1 == "feed") feeds[item[1]] = feeds[item[1]] " " item[2]
+                else if ($1 == "byte") note["byte", item[1], item[2]] = 1
                 else note[$1, item[1]] = item[2] == "" ? 1 : item[2]
             }
             next
@@ -65,6 +69,15 @@ restore() {
             if (card[1] == deck && card[2] == 1) next
             text[++count] = substr($0, length($2) + 4)
             line[count] = card[1] == deck ? card[2] - 1 : card[1] in start ? start[card[1]] + card[2] - 1 : 0
+        }
+        function decoded(text, number,    done, code, before, is_byte) {
+            while (match(text, /\\(\\|[0-3][0-7][0-7])/)) {
+                code = substr(text, RSTART + 1, RLENGTH - 1)
+                is_byte = note["bytes", code] || note["byte", number, before + RSTART]
+                done = done substr(text, 1, RSTART - 1) (is_byte ? byte[code] : "\\" code)
+                before += RSTART + RLENGTH - 1; text = substr(text, RSTART + RLENGTH)
+            }
+            return done text
         }
         function is_whole(at, cards,    i) {
             for (i = 0; i < cards; i++)
@@ -84,6 +97,7 @@ restore() {
                     size = split(feeds[number], column, " ")
                     for (i = 1; i <= size; i++) whole = substr(whole, 1, column[i] - 1) "\f" substr(whole, column[i] + 1)
                 }
+                whole = decoded(whole, cards ? 0 : number)
                 if (all_cr || note["cr", number]) whole = whole "\r"
                 printf "%s%s", whole, (at == count && note["open", line[at]] ? "" : "\n")
             }
