@@ -153,6 +153,7 @@ const ABOUT: &[(&str, &str)] = &[
     ("correct-at", "Writes the run that does what an edit"),
     ("correct-parts", "Writes the spool of runs that correct"),
     ("try", "Writes the reply that the run"),
+    ("try-at", "Does what `try` does, and warns"),
     ("source", "Writes the compile file of one"),
     ("runs", "Lists the stored runs"),
     ("sites", "Lists the sites"),

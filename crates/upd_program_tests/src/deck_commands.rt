@@ -20,6 +20,8 @@ const IDENTS: &str = "1 C comdeck held\n2 A deck held\n3 S set held\n";
 
 const UNKNOWN: Wanted<'static> = (1, "", "upd: DeckUnknown (12) at 0\n");
 
+const NO_IDENT: Wanted<'static> = (1, "", "upd: IdentUnknown (11) at 0\n");
+
 #[test]
 fn the_text_of_a_deck_is_its_active_cards(rt: HostRuntime) -> Result<(), Fail> {
     const STEPS: &[Step<'_>] = &[
@@ -91,7 +93,6 @@ fn a_correction_run_leads_decks_to_their_texts(rt: HostRuntime) -> Result<(), Fa
 fn a_text_that_was_taken_earlier_is_corrected(rt: HostRuntime) -> Result<(), Fail> {
     const OLD: &str = "*DECK A\nONE\n*CALL C\nTWO\nTHREE\n";
     const NEW: &str = "*DECK A\nUN\n*CALL C\nTWO\nTHREE\n";
-    const NO_IDENT: Wanted<'_> = (1, "", "upd: IdentUnknown (11) at 0\n");
     const BAD_NAME: Wanted<'_> = (1, "", "upd: BadName (5) at 0\n");
     const CHANGES: &str = "*IDENT T\n*DELETE A.2\nUN\n";
     const STEPS: &[Step<'_>] = &[
@@ -220,6 +221,13 @@ fn a_run_that_is_tried_is_not_stored(rt: HostRuntime) -> Result<(), Fail> {
         ),
         Step::Answers("try", &["quick"], "HELLO\n", (1, NOWHERE, "")),
         Step::Answers("try", &["slow"], "HELLO\n", (1, BAD_MODE, "")),
+        Step::Answers(
+            "try-at",
+            &["quick", "A"],
+            "*IDENT T\n*DELETE S.1\n",
+            (0, TRIED, "upd: 2: S.1 came after A and is deleted\n"),
+        ),
+        Step::Answers("try-at", &["quick", "Q"], "HELLO\n", NO_IDENT),
         Step::Writes("idents", &[], IDENTS),
     ];
     session(&rt, "tried", STEPS)
@@ -237,7 +245,6 @@ const REPORT: &str = "IDENT X set\nYANKED Y.1 set X\nDECK A\noff A.2 ONE\nI X.1 
 
 #[test]
 fn a_library_is_looked_at(rt: HostRuntime) -> Result<(), Fail> {
-    const NO_IDENT: Wanted<'_> = (1, "", "upd: IdentUnknown (11) at 0\n");
     const STEPS: &[Step<'_>] = &[
         Step::Accepts("1", "quick", "*DECK A\nONE\nTWO\nTHREE\n"),
         Step::Accepts("2", "quick", "*IDENT X\n*DELETE A.2\nNEW\n"),

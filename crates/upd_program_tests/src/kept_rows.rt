@@ -82,6 +82,7 @@ const ASKED: &[(&str, &[&str])] = &[
     ("settle", &["LYON", "0"]),
     ("spool", &[]),
     ("try", &["full"]),
+    ("try-at", &["full", "A"]),
     ("text", &["A"]),
     ("text-at", &["A", "A"]),
     ("correct", &["Z"]),

@@ -12,6 +12,8 @@ mod deck_commands;
 #[cfg(test)]
 mod examined_files;
 #[cfg(test)]
+mod exposed_files;
+#[cfg(test)]
 mod file_changes;
 #[cfg(test)]
 mod file_sessions;

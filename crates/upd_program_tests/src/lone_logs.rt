@@ -36,7 +36,7 @@ fn keeps_log(rt: &HostRuntime, file: &str) -> Result<(), Fail> {
 }
 
 /// A library with a mark that is only in its log.
-fn logged(rt: &HostRuntime, name: &str) -> Result<String, Fail> {
+pub fn logged(rt: &HostRuntime, name: &str) -> Result<String, Fail> {
     let file = library(rt, name)?;
     let mark = Step::Logs("INSERT INTO settled (site, mark) VALUES ('LYON', 3)");
     take_all(rt, &file, &[mark])?;

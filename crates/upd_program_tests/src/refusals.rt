@@ -22,6 +22,7 @@ const OPERANDS: &[(&str, &[&str], &str)] = &[
     ("text", &["a"], "upd: BadName (5) at 0\n"),
     ("text-at", &["a", "A"], "upd: BadName (5) at 0\n"),
     ("correct-at", &["X", "a"], "upd: BadName (5) at 0\n"),
+    ("try-at", &["full", "a"], "upd: BadName (5) at 0\n"),
     ("source", &["a"], "upd: BadName (5) at 0\n"),
     ("history", &["A"], "upd: BadCard (6) at 0\n"),
 ];
@@ -58,6 +59,7 @@ pub const COMMANDS: &[(&str, &[&str])] = &[
     ("correct-at", &["X", "A"]),
     ("correct-parts", &["A", "LYON", "1", "full"]),
     ("try", &["full"]),
+    ("try-at", &["full", "A"]),
     ("source", &["A"]),
     ("replay", &[]),
     ("migrate", &[]),

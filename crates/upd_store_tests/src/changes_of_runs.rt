@@ -2,11 +2,13 @@
 use std::alloc::Global;
 use std::test::Fail;
 use upd_core::{Change, Library};
+use upd_desk::Desk;
+use upd_memory::{ListStore, MirrorStore};
 use upd_testkit::applying::{after, applied};
-use upd_testkit::check::{same, same_text};
+use upd_testkit::check::{holds, same, same_text};
 
 /// A run that introduces a deck of 2,000 cards.
-pub fn deck_of_2000(alloc: Global, deck: u32) -> Result<String, Fail> {
+fn deck_of_2000(alloc: Global, deck: u32) -> Result<String, Fail> {
     let mut text = format!(in alloc; "*DECK DECK{deck}\n")?;
     for _ in 1..2000 {
         text.push_str("      CONTINUE\n")?;
@@ -118,4 +120,27 @@ fn the_last_of_35966_cards_of_a_deck_is_deleted(rt: HostRuntime) -> Result<(), F
     let mut library = with_sets(rt.alloc(), 17)?;
     let changes = applied(&mut library, "*IDENT Y\n*DELETE X16.1998\n")?.changes;
     same("changes", changes.len(), 2)
+}
+
+/// A run of a desk over rows in memory is accepted.
+fn accepts(
+    alloc: Global,
+    desk: &mut Desk<MirrorStore<ListStore>>,
+    number: u32,
+    text: &str,
+) -> Result<(), Fail> {
+    let reply = desk.arrive(alloc, "LYON", u64::from(number), "quick", text.as_bytes())?;
+    holds(number, reply.accepted)
+}
+
+/// There may be no more cards.
+#[test]
+fn all_of_50000_cards_are_in_memory(rt: HostRuntime) -> Result<(), Fail> {
+    let mut desk = Desk::open(MirrorStore::new(ListStore::new(rt.alloc())));
+    for deck in 0..25 {
+        let text = deck_of_2000(rt.alloc(), deck)?;
+        accepts(rt.alloc(), &mut desk, deck.saturating_add(1), &text)?;
+    }
+    accepts(rt.alloc(), &mut desk, 26, "*IDENT X\n*DELETE DECK24.2000\n")?;
+    holds("rows in memory", desk.close().has_rows())
 }

@@ -1,39 +1,30 @@
 //! The number of decks that are read for a run: those that it needs, and none for a repeat.
-use crate::random_arrivals::{after_decks, random_arrival};
 use std::alloc::Global;
 use std::test::Fail;
-use upd_desk::Desk;
 use upd_memory::ListStore;
 use upd_row_store::RowStore;
-use upd_testkit::asks::{Ask, lyon};
-use upd_testkit::check::{holds, same};
-use upd_testkit::random_runs::Dice;
+use upd_testkit::asks::Ask;
+use upd_testkit::check::same;
 use upd_testkit::session::Session;
 
 /// The store is handed to another desk: the number of decks that it has read.
-fn counted<S: RowStore + Drop>(session: Session<S>) -> (Session<S>, u64) {
+fn counted(session: Session<ListStore>) -> (Session<ListStore>, u64) {
     let Session {
         desk,
         reference,
-        alloc,
+        ..
     } = session;
     let store = desk.close();
     let read = store.decks_read();
-    let desk = Desk::open(store);
-    let session = Session {
-        desk,
-        reference,
-        alloc,
-    };
-    (session, read)
+    (Session::over(store, reference), read)
 }
 
 /// Both are asked the same, and this number of decks is read for it.
-fn reads<S: RowStore + Drop>(
-    session: Session<S>,
+fn reads(
+    session: Session<ListStore>,
     asks: &[Ask<'_>],
     decks: u64,
-) -> Result<Session<S>, Fail> {
+) -> Result<Session<ListStore>, Fail> {
     let (mut session, before) = counted(session);
     session.ask_all(asks)?;
     let (session, after) = counted(session);
@@ -41,43 +32,11 @@ fn reads<S: RowStore + Drop>(
     Ok(session)
 }
 
-/// An arrival at random, and the number of decks that have been read by then: the number that runs have needed.
-fn random_read<S: RowStore + Drop>(
-    session: Session<S>,
-    dice: &mut Dice,
-    list: u32,
-) -> Result<Session<S>, Fail> {
-    let mut session = session;
-    random_arrival(&mut session, dice, list)?;
-    let (session, read) = counted(session);
-    same("decks read", read, session.reference.needed)?;
-    Ok(session)
-}
-
-/// Arrivals at random: the number of decks that were read.
-fn random_reads(alloc: Global, dice: &mut Dice, list: u32) -> Result<u64, Fail> {
-    let mut session = after_decks(alloc, ListStore::new(alloc))?;
-    for _ in 0..30 {
-        session = random_read(session, dice, list)?;
-    }
-    Ok(counted(session).1)
-}
-
-#[test]
-fn reads_the_decks_that_random_runs_need(rt: HostRuntime) -> Result<(), Fail> {
-    let mut dice = Dice(1974);
-    let mut read: u64 = 0;
-    for list in 0..60 {
-        read = read.saturating_add(random_reads(rt.alloc(), &mut dice, list)?);
-    }
-    holds(("decks read", read), read > 1_000)
-}
-
 /// Quick runs of LYON on an empty library, and the number of decks that are read for each.
 fn runs_read(alloc: Global, runs: &[(u64, &str, u64)]) -> Result<Session<ListStore>, Fail> {
     let mut session = Session::new(alloc, ListStore::new(alloc));
     for (number, text, decks) in runs {
-        session = reads(session, &[Ask::Run(lyon(*number, "quick", text))], *decks)?;
+        session = reads(session, &[Ask::Lyon(*number, "quick", text)], *decks)?;
     }
     Ok(session)
 }
@@ -107,11 +66,7 @@ fn a_quick_run_reads_the_decks_of_its_cards(rt: HostRuntime) -> Result<(), Fail>
 }
 
 /// The first run of a library reads no deck.
-const LISTED_DECKS: &[(u64, &str, u64)] = &[(
-    1,
-    "*DECK A\nONE\n*DECK B\nBEE\n*IDENT X\n*YANK A\n",
-    0,
-)];
+const TWO_DECKS: (u64, &str, u64) = (1, "*DECK A\nONE\n*DECK B\nBEE\n*IDENT X\n*YANK A\n", 0);
 
 /// What is listed, and the number of decks that are read for it: one for a deck, the one of a card, and none for what
 /// is in `YANK$$$` or nowhere, for idents, yanks and the full compile file.
@@ -124,15 +79,11 @@ const LISTED: &[(&[Ask<'static>], u64)] = &[
     (&[Ask::Compile, Ask::Idents, Ask::Yanks], 0),
 ];
 
-fn listings_read(session: Session<ListStore>) -> Result<(), Fail> {
-    let mut session = session;
+#[test]
+fn a_listing_of_a_deck_or_a_card_reads_one_deck(rt: HostRuntime) -> Result<(), Fail> {
+    let mut session = runs_read(rt.alloc(), &[TWO_DECKS])?;
     for (asks, decks) in LISTED {
         session = reads(session, asks, *decks)?;
     }
     Ok(())
-}
-
-#[test]
-fn a_listing_of_a_deck_or_a_card_reads_one_deck(rt: HostRuntime) -> Result<(), Fail> {
-    listings_read(runs_read(rt.alloc(), LISTED_DECKS)?)
 }

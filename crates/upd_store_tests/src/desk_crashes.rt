@@ -1,6 +1,5 @@
 //! A crash at each call of the disk: what is opened again holds the answered arrivals, with or without the one in hand.
-use crate::fused_files::{ALL, Bytes, Calls, Fused, Work, work_in};
-use crate::sqlite_rows::stored_tables;
+use crate::fused_files::{Bytes, Cut, Fused, Work, survives_crashes, work_in};
 use sqlite::Connection;
 use sqlite_disk::Files;
 use std::alloc::Global;
@@ -8,32 +7,27 @@ use std::test::Fail;
 use upd_row_store::RowStore;
 use upd_sqlite::Rising;
 use upd_store::SqlStore;
-use upd_testkit::asks::{Ask, lyon, shown};
-use upd_testkit::check::{holds, same, same_text};
+use upd_testkit::asks::{Ask, shown};
+use upd_testkit::check::same_text;
 use upd_testkit::reference_desk::ReferenceDesk;
 use upd_testkit::reference_rows::reference_tables;
 use upd_testkit::session::Session;
+use upd_testkit::table_rows::table_rows;
 use upd_text::{Fault, FaultKind};
-
-const SITES: [&str; 1] = ["LYON"];
 
 /// The library in a database; a new one if there is no library in it.
 fn library_in<S: Rising + Drop>(conn: Connection<S>) -> Result<SqlStore<S>, Connection<S>> {
     match SqlStore::adopt(conn) {
         Ok(store) => Ok(store),
-        Err((_, conn)) => new_library(conn),
-    }
-}
-
-fn new_library<S: Rising + Drop>(conn: Connection<S>) -> Result<SqlStore<S>, Connection<S>> {
-    match SqlStore::init(conn) {
-        Ok(store) => Ok(store),
-        Err((_, conn)) => Err(conn),
+        Err((_, conn)) => match SqlStore::init(conn) {
+            Ok(store) => Ok(store),
+            Err((_, conn)) => Err(conn),
+        },
     }
 }
 
 /// Reads the tables as text; none if the database holds no library.
-#[derive(Drop)]
+#[derive(Clone, Copy)]
 struct ReadTables;
 
 impl Work for ReadTables {
@@ -47,7 +41,7 @@ impl Work for ReadTables {
         match SqlStore::adopt(conn) {
             Ok(store) => {
                 let mut conn = store.into_connection();
-                let text = stored_tables(alloc, &mut conn)?;
+                let text = table_rows(alloc, &mut conn)?;
                 Ok((text, conn))
             }
             Err((_, conn)) => Ok((String::new(alloc), conn)),
@@ -66,42 +60,28 @@ fn tables_in(alloc: Global, files: Files<Fused>) -> Result<(String, Files<Fused>
 struct Sending {
     /// Whether there was a library at the start.
     opened: bool,
-    /// The answers up to the first failure.
-    answers: Vec<String>,
-}
-
-impl Sending {
-    /// What comes of a list where there is no library.
-    fn none(alloc: Global) -> Sending {
-        Sending {
-            opened: false,
-            answers: Vec::new(alloc),
-        }
-    }
+    /// The number of answers up to the first failure, and these, one a line.
+    count: usize,
+    answers: String,
 }
 
 fn is_lost(fault: Fault) -> bool {
     matches!(fault.kind, FaultKind::NoMemory | FaultKind::Store)
 }
 
-/// The answer to what is asked; `None` if a call failed.
-fn answer<R: RowStore>(session: &mut Session<R>, ask: Ask<'_>) -> Result<Option<String>, Fail> {
-    match session.answer(ask)? {
-        Err(fault) if is_lost(fault) => Ok(None),
-        answer => Ok(Some(shown(session.alloc, answer)?)),
+/// The answers up to the first failure: their number, and these, one a line.
+fn answers<R: RowStore>(
+    session: &mut Session<R>,
+    list: &[Ask<'_>],
+) -> Result<(usize, String), Fail> {
+    let mut text = String::new(session.alloc);
+    for (count, ask) in list.iter().enumerate() {
+        match session.answer(*ask)? {
+            Err(fault) if is_lost(fault) => return Ok((count, text)),
+            answer => write!(text, "{}\n", shown(session.alloc, answer)?)?,
+        }
     }
-}
-
-/// The answers up to the first failure.
-fn answers<R: RowStore>(session: &mut Session<R>, list: &[Ask<'_>]) -> Result<Vec<String>, Fail> {
-    let mut answers = Vec::new(session.alloc);
-    for ask in list {
-        let Some(answer) = answer(session, *ask)? else {
-            break;
-        };
-        answers.push(answer)?;
-    }
-    Ok(answers)
+    Ok((list.len(), text))
 }
 
 /// Asks the library in a store until a call fails: what came of it, and the store.
@@ -111,12 +91,17 @@ fn asked<R: RowStore + Drop>(
     list: &[Ask<'_>],
 ) -> Result<(Sending, R), Fail> {
     let mut session = Session::new(alloc, store);
-    let (opened, answers) = (true, answers(&mut session, list)?);
-    Ok((Sending { opened, answers }, session.desk.close()))
+    let (count, answers) = answers(&mut session, list)?;
+    let sending = Sending {
+        opened: true,
+        count,
+        answers,
+    };
+    Ok((sending, session.desk.close()))
 }
 
 /// Asks the library in a database until a call fails.
-#[derive(Drop)]
+#[derive(Clone, Copy)]
 struct Asking<'a> {
     list: &'a [Ask<'a>],
 }
@@ -134,210 +119,122 @@ impl Work for Asking<'_> {
                 let (sending, store) = asked(alloc, store, self.list)?;
                 Ok((sending, store.into_connection()))
             }
-            Err(conn) => Ok((Sending::none(alloc), conn)),
+            Err(conn) => Ok((none_sent(alloc), conn)),
         }
     }
 }
 
-/// Asks until a call fails: what came of it, and the files.
-fn send(
-    alloc: Global,
-    files: Files<Fused>,
-    list: &[Ask<'_>],
-) -> Result<(Sending, Files<Fused>), Fail> {
-    let (sending, files) = work_in(alloc, files, Asking { list })?;
-    Ok((sending.unwrap_or_else(|| Sending::none(alloc)), files))
+/// What comes of a list where there is no library.
+fn none_sent(alloc: Global) -> Sending {
+    Sending {
+        opened: false,
+        count: 0,
+        answers: String::new(alloc),
+    }
 }
 
-/// The reference desk after the first `count` of a list.
-fn reference_after(alloc: Global, list: &[Ask<'_>], count: usize) -> Result<ReferenceDesk, Fail> {
-    let mut reference = ReferenceDesk::new(alloc);
-    answer_all(&mut reference, list.get(..count).unwrap_or(list))?;
-    Ok(reference)
+/// What the reference desk has after the first of a list: the tables, the answers to the whole list, sent again, one a
+/// line, and the tables then.
+#[derive(Drop)]
+struct Wanted {
+    tables: String,
+    answers: String,
+    end: String,
 }
 
-fn answer_all(reference: &mut ReferenceDesk, list: &[Ask<'_>]) -> Result<(), Fail> {
+/// The answers of the reference desk, one a line.
+fn reference_answers(reference: &mut ReferenceDesk, list: &[Ask<'_>]) -> Result<String, Fail> {
+    let mut text = String::new(reference.library.allocator());
     for ask in list {
-        reference.answer(*ask)?;
+        write!(text, "{}\n", reference.answer(*ask)?)?;
     }
-    Ok(())
+    Ok(text)
 }
 
-/// Two texts are the same after this number of answers.
-fn same_after(answered: usize, found: &str, wanted: &str) -> Result<(), Fail> {
-    same_text(("after", answered), found, wanted)
+fn wanted_after(alloc: Global, list: &[Ask<'_>], count: usize) -> Result<Wanted, Fail> {
+    let mut reference = ReferenceDesk::new(alloc);
+    reference_answers(&mut reference, list.get(..count).unwrap_or(list))?;
+    Ok(Wanted {
+        tables: reference_tables(&reference)?,
+        answers: reference_answers(&mut reference, list)?,
+        end: reference_tables(&reference)?,
+    })
 }
 
-/// The reference desk after the answered part of the list and one more, which has the tables.
-fn one_more(
-    alloc: Global,
-    list: &[Ask<'_>],
-    answered: usize,
-    found: &str,
-) -> Result<ReferenceDesk, Fail> {
-    let reference = reference_after(alloc, list, answered.saturating_add(1))?;
-    let with = reference_tables(alloc, &reference, &SITES)?;
-    same_after(answered, found, with.as_str())?;
-    Ok(reference)
-}
-
-/// Whether the tables that a crash left are those of the reference desk. Before the first answer there may also be no
-/// library.
-fn is_left(reference: &ReferenceDesk, sending: &Sending, found: &str) -> Result<bool, Fail> {
-    if found.is_empty() && !sending.opened {
-        return Ok(true);
+impl Asking<'_> {
+    /// Asks until a call fails: what came of it, and the files.
+    fn send(&self, alloc: Global, files: Files<Fused>) -> Result<(Sending, Files<Fused>), Fail> {
+        let (sending, files) = work_in(alloc, files, *self)?;
+        Ok((sending.unwrap_or_else(|| none_sent(alloc)), files))
     }
-    let wanted = reference_tables(reference.library.allocator(), reference, &SITES)?;
-    Ok(found == wanted.as_str())
-}
 
-/// The reference desk with the tables that a crash left: after the answered part of the list, or after one more. Before
-/// the first answer there may also be no library.
-fn left_by(
-    alloc: Global,
-    list: &[Ask<'_>],
-    sending: &Sending,
-    found: &str,
-) -> Result<ReferenceDesk, Fail> {
-    let answered = sending.answers.len();
-    let reference = reference_after(alloc, list, answered)?;
-    if is_left(&reference, sending, found)? {
-        return Ok(reference);
-    }
-    one_more(alloc, list, answered, found)
-}
-
-/// The answer is that of the reference desk.
-fn is_answered(
-    reference: &mut ReferenceDesk,
-    ask: Ask<'_>,
-    answer: &str,
-    answered: usize,
-) -> Result<(), Fail> {
-    let wanted = reference.answer(ask)?;
-    same_text((ask, "after", answered), answer, wanted.as_str())
-}
-
-/// Each of a list has an answer, that of the reference desk.
-fn are_answered(
-    reference: &mut ReferenceDesk,
-    list: &[Ask<'_>],
-    answers: &[String],
-    answered: usize,
-) -> Result<(), Fail> {
-    same("the answers", answers.len(), list.len())?;
-    for (ask, answer) in list.iter().zip(answers) {
-        is_answered(reference, *ask, answer.as_str(), answered)?;
-    }
-    Ok(())
-}
-
-/// The tables in the files are those of the reference desk.
-fn has_tables(reference: &ReferenceDesk, files: Files<Fused>, answered: usize) -> Result<(), Fail> {
-    let alloc = reference.library.allocator();
-    let (found, _) = tables_in(alloc, files)?;
-    let wanted = reference_tables(alloc, reference, &SITES)?;
-    same_after(answered, found.as_str(), wanted.as_str())
-}
-
-/// The whole list, sent again, is answered as the reference desk answers, and its tables are in the files then.
-fn is_sent_again(
-    reference: &mut ReferenceDesk,
-    files: Files<Fused>,
-    list: &[Ask<'_>],
-    answered: usize,
-) -> Result<(), Fail> {
-    let alloc = reference.library.allocator();
-    let (again, files) = send(alloc, files, list)?;
-    are_answered(reference, list, &again.answers, answered)?;
-    has_tables(reference, files, answered)
-}
-
-/// What a crash left is the library after the answered part of the list, or after one more; before the first answer it
-/// may also be no library. The whole list, sent again, is answered as the reference desk answers.
-fn left_holds(
-    alloc: Global,
-    list: &[Ask<'_>],
-    sending: &Sending,
-    left: &Bytes,
-) -> Result<(), Fail> {
-    let (found, files) = tables_in(alloc, left.files(alloc, ALL)?)?;
-    let mut reference = left_by(alloc, list, sending, found.as_str())?;
-    is_sent_again(&mut reference, files, list, sending.answers.len())
-}
-
-/// What is found after a kill holds, and what is found after a crash.
-fn both_hold(
-    alloc: Global,
-    list: &[Ask<'_>],
-    sending: &Sending,
-    files: Files<Fused>,
-) -> Result<(), Fail> {
-    left_holds(alloc, list, sending, &Bytes::written(alloc, &files)?)?;
-    left_holds(alloc, list, sending, &Bytes::synced(alloc, files)?)
-}
-
-/// A kill of the process and a crash of the machine after these calls: whether a call failed.
-fn crashes(alloc: Global, list: &[Ask<'_>], calls: Calls) -> Result<bool, Fail> {
-    let files = Bytes::none(alloc).files(alloc, calls)?;
-    let (sending, files) = send(alloc, files, list)?;
-    if sending.answers.len() == list.len() {
-        return Ok(false);
-    }
-    both_hold(alloc, list, &sending, files)?;
-    Ok(true)
-}
-
-/// A crash at each call of the log: the number of them.
-fn crashes_of_log(alloc: Global, list: &[Ask<'_>]) -> Result<u64, Fail> {
-    for log in 0..10_000 {
-        let calls = Calls { log, db: u64::MAX };
-        if !crashes(alloc, list, calls)? {
-            return Ok(log);
+    /// What is expected after a crash that left these tables: they are those after the answered part of the list, or after
+    /// one more. Before the first answer there may also be no library.
+    fn wanted(&self, alloc: Global, sending: &Sending, found: &str) -> Result<Wanted, Fail> {
+        let wanted = wanted_after(alloc, self.list, sending.count)?;
+        if found == wanted.tables.as_str() || found.is_empty() && !sending.opened {
+            return Ok(wanted);
         }
+        let wanted = wanted_after(alloc, self.list, sending.count.saturating_add(1))?;
+        same_text(("after", sending.count), found, &wanted.tables)?;
+        Ok(wanted)
     }
-    Err("no end of crashes".into())
 }
 
-/// A crash at each call of the database file: the number of them.
-fn crashes_of_db(alloc: Global, list: &[Ask<'_>]) -> Result<u64, Fail> {
-    for db in 0..10_000 {
-        let calls = Calls { log: u64::MAX, db };
-        if !crashes(alloc, list, calls)? {
-            return Ok(db);
-        }
-    }
-    Err("no end of crashes".into())
-}
+impl Cut for Asking<'_> {
+    type Part = Sending;
 
-/// A crash at each call of the log, then at each of the database file; there are more than `least`.
-fn survives_crashes(alloc: Global, list: &[Ask<'_>], least: u64) -> Result<(), Fail> {
-    let of_log = crashes_of_log(alloc, list)?;
-    let crashes = crashes_of_db(alloc, list)?.saturating_add(of_log);
-    holds(("crashes", crashes), crashes > least)
+    fn cut(
+        &self,
+        alloc: Global,
+        files: Files<Fused>,
+    ) -> Result<(Option<Sending>, Files<Fused>), Fail> {
+        let (sending, files) = self.send(alloc, files)?;
+        let is_whole = sending.count == self.list.len();
+        Ok((if is_whole { None } else { Some(sending) }, files))
+    }
+
+    /// The whole list, sent again, is answered as the reference desk answers, whose tables are in the files then.
+    fn left_holds(&self, alloc: Global, sending: &Sending, left: &Bytes) -> Result<(), Fail> {
+        let (found, files) = tables_in(alloc, left.whole_files(alloc)?)?;
+        let wanted = self.wanted(alloc, sending, &found)?;
+        let (again, files) = self.send(alloc, files)?;
+        same_text(
+            ("answers after", sending.count),
+            &again.answers,
+            &wanted.answers,
+        )?;
+        let (found, _) = tables_in(alloc, files)?;
+        same_text(("tables after", sending.count), &found, &wanted.end)
+    }
 }
 
 const DECK_A: &str = "*DECK A\nONE\nTWO\nTHREE\n";
 
 /// Five runs, each of which is one commit, then a settlement of the first two.
+const FIVE_RUNS: &[Ask<'static>] = &[
+    Ask::Lyon(1, "full", DECK_A),
+    Ask::Lyon(2, "full", "*IDENT X\n*DELETE A.2\nNEW\n"),
+    Ask::Lyon(3, "full", "*IDENT Y\n*YANK X\n"),
+    Ask::Lyon(4, "full", "*IDENT Z\n*YANK Y\n"),
+    Ask::Lyon(5, "full", "*IDENT W\n*DELETE Z.1\n"),
+    Ask::Settle("LYON", 2),
+];
+
 #[test]
 fn five_commits_and_a_settlement_survive_crashes(rt: HostRuntime) -> Result<(), Fail> {
-    let list = [
-        Ask::Run(lyon(1, "full", DECK_A)),
-        Ask::Run(lyon(2, "full", "*IDENT X\n*DELETE A.2\nNEW\n")),
-        Ask::Run(lyon(3, "full", "*IDENT Y\n*YANK X\n")),
-        Ask::Run(lyon(4, "full", "*IDENT Z\n*YANK Y\n")),
-        Ask::Run(lyon(5, "full", "*IDENT W\n*DELETE Z.1\n")),
-        Ask::Settle("LYON", 2),
-    ];
-    survives_crashes(rt.alloc(), &list, 50)
+    let asking = Asking { list: FIVE_RUNS };
+    survives_crashes(rt.alloc(), &asking, &Bytes::none(rt.alloc()), 50)
 }
+
+const DECK: Ask<'static> = Ask::Lyon(7, "full", DECK_A);
+
+const DELETED: Ask<'static> = Ask::Lyon(6, "full", "*IDENT X\n*DELETE A.3\n");
 
 /// Two runs and their repeats, then a settlement of the one that came second.
 #[test]
 fn repeats_survive_crashes(rt: HostRuntime) -> Result<(), Fail> {
-    let deck = Ask::Run(lyon(7, "full", DECK_A));
-    let deleted = Ask::Run(lyon(6, "full", "*IDENT X\n*DELETE A.3\n"));
-    let list = [deck, deleted, deck, deleted, Ask::Settle("LYON", 6)];
-    survives_crashes(rt.alloc(), &list, 30)
+    let list = [DECK, DELETED, DECK, DELETED, Ask::Settle("LYON", 6)];
+    let asking = Asking { list: &list };
+    survives_crashes(rt.alloc(), &asking, &Bytes::none(rt.alloc()), 30)
 }

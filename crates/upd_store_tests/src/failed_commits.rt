@@ -8,11 +8,11 @@ ghost use Rattle.upd_row_store.specs.Keeping.{IsLost, failures_with};
 use std::alloc::Global;
 use std::test::Fail;
 use upd_core::{Actives, CardRef, Change, Library, Serial, States};
-use upd_desk::{Arrival, Desk, Reply};
+use upd_desk::{Arrival, Desk};
 use upd_memory::{ListStore, MirrorStore};
 use upd_records::{LibraryRows, RunRow};
 use upd_row_store::{Meaning, RowStore};
-use upd_testkit::asks::{Sent, lyon, shown};
+use upd_testkit::asks::{lyon, shown};
 use upd_testkit::check::same_text;
 use upd_testkit::replies::{accepted, refused};
 use upd_text::{Fault, FaultKind};
@@ -177,118 +177,69 @@ impl RowStore for Failing {
     ghost survives = { λ s _. ∣ (_, refl) ∣₁ };
 }
 
-const DECK_A: &str = "*DECK A\nONE\nTWO\nTHREE\n";
+/// Run 7 introduces deck A.
+const DECK: Arrival<'static> = Arrival {
+    site: "LYON",
+    number: 7,
+    mode: "full",
+    bytes: b"*DECK A\nONE\nTWO\nTHREE\n",
+};
 
-/// Adds an answer as a line.
-fn add_answer(text: &mut String, answer: Result<Reply, Fault>) -> Result<(), Fail> {
-    let answer = shown(*text.allocator(), answer.map(|reply| reply.text))?;
-    Ok(write!(text, "{answer}\n")?)
-}
+/// Run 6 deletes a card of deck A.
+const DELETED: Arrival<'static> = Arrival {
+    site: "LYON",
+    number: 6,
+    mode: "full",
+    bytes: b"*IDENT X\n*DELETE A.3\n",
+};
 
-/// The answers of a desk over a store, one a line.
-fn run_all<S: RowStore + Drop>(
-    alloc: Global,
-    store: S,
-    list: &[Arrival<'_>],
-) -> Result<String, Fail> {
-    let answers = Desk::open(store).run_all(alloc, list)?;
+/// The answers of a desk over a store to the two runs and their repeats, one a line.
+fn answers<S: RowStore + Drop>(alloc: Global, store: S) -> Result<String, Fail> {
+    let answers = Desk::open(store).run_all(alloc, &[DECK, DELETED, DECK, DELETED])?;
     let mut text = String::new(alloc);
     for answer in answers {
-        add_answer(&mut text, answer)?;
+        let answer = shown(alloc, answer.map(|reply| reply.text))?;
+        write!(text, "{answer}\n")?;
     }
     Ok(text)
 }
 
-fn arrival(sent: Sent<'_>) -> Arrival<'_> {
-    Arrival {
-        site: sent.site,
-        number: sent.number,
-        mode: sent.mode,
-        bytes: sent.text.as_bytes(),
-    }
-}
-
-/// Run 7 introduces deck A.
-fn deck() -> Sent<'static> {
-    lyon(7, "full", DECK_A)
-}
-
-/// Run 6 deletes a card of deck A.
-fn deleted() -> Sent<'static> {
-    lyon(6, "full", "*IDENT X\n*DELETE A.3\n")
-}
-
-/// The replies to the two runs: the second is refused while there is no deck.
-#[derive(Drop)]
-struct Replies {
-    made: String,
-    corrected: String,
-    unknown: String,
-}
-
-fn wanted_replies(alloc: Global) -> Result<Replies, Fail> {
-    let lines = [("ONE", "A", 2), ("TWO", "A", 3), ("THREE", "A", 4)];
-    let made = accepted(alloc, deck(), &["A"], &lines)?;
-    let lines = [("ONE", "A", 2), ("THREE", "A", 4)];
-    let corrected = accepted(alloc, deleted(), &["X"], &lines)?;
-    let unknown = refused(alloc, deleted(), "CardUnknown 13 at 2")?;
-    Ok(Replies {
-        made,
-        corrected,
-        unknown,
-    })
-}
-
-/// The two runs and their repeats have these answers if after `passing` commits `short` run out of memory and the next
-/// fails, also below rows in memory.
+/// The answers are these if after `passing` commits `short` run out of memory and the next fails, also below rows in
+/// memory.
 fn answers_are(alloc: Global, (passing, short): (u64, u64), wanted: &str) -> Result<(), Fail> {
-    let list = [
-        arrival(deck()),
-        arrival(deleted()),
-        arrival(deck()),
-        arrival(deleted()),
-    ];
-    let plain = run_all(alloc, Failing::new(alloc, passing, short), &list)?;
-    same_text("the answers", plain.as_str(), wanted)?;
+    let plain = answers(alloc, Failing::new(alloc, passing, short))?;
+    same_text("the answers", &plain, wanted)?;
     let mirrored = MirrorStore::new(Failing::new(alloc, passing, short));
-    let mirrored = run_all(alloc, mirrored, &list)?;
-    same_text("the answers with rows in memory", mirrored.as_str(), wanted)
+    same_text(
+        "the answers with rows in memory",
+        &answers(alloc, mirrored)?,
+        wanted,
+    )
 }
 
-fn first_is_lost(alloc: Global, replies: &Replies) -> Result<(), Fail> {
-    let Replies { made, unknown, .. } = replies;
-    let wanted = format!(in alloc; "Store (29) at 0\n{unknown}\n{made}\n{unknown}\n")?;
-    answers_are(alloc, (0, 0), wanted.as_str())
-}
-
-fn second_is_lost(alloc: Global, replies: &Replies) -> Result<(), Fail> {
-    let Replies {
-        made,
-        corrected,
-        ..
-    } = replies;
-    let wanted = format!(in alloc; "{made}\nStore (29) at 0\n{made}\n{corrected}\n")?;
-    answers_are(alloc, (1, 0), wanted.as_str())
-}
-
-/// Two runs run out of memory, and the store fails in the third. The fourth is still looked at.
-fn three_are_lost(alloc: Global, replies: &Replies) -> Result<(), Fail> {
-    let unknown = &replies.unknown;
-    let lost = "NoMemory (28) at 0\nNoMemory (28) at 0\nStore (29) at 0";
-    let wanted = format!(in alloc; "{lost}\n{unknown}\n")?;
-    answers_are(alloc, (0, 2), wanted.as_str())
+/// The reply to the second run, while there is no deck.
+fn unknown(alloc: Global) -> Result<String, Fail> {
+    refused(alloc, lyon(6, "full", ""), "CardUnknown 13 at 2")
 }
 
 #[test]
 fn a_lost_run_is_passed_over(rt: HostRuntime) -> Result<(), Fail> {
     let alloc = rt.alloc();
-    let replies = wanted_replies(alloc)?;
-    first_is_lost(alloc, &replies)?;
-    second_is_lost(alloc, &replies)
+    let lines = [("ONE", "A", 2), ("TWO", "A", 3), ("THREE", "A", 4)];
+    let made = accepted(alloc, lyon(7, "full", ""), &["A"], &lines)?;
+    let lines = [("ONE", "A", 2), ("THREE", "A", 4)];
+    let corrected = accepted(alloc, lyon(6, "full", ""), &["X"], &lines)?;
+    let unknown = unknown(alloc)?;
+    let wanted = format!(in alloc; "Store (29) at 0\n{unknown}\n{made}\n{unknown}\n")?;
+    answers_are(alloc, (0, 0), &wanted)?;
+    let wanted = format!(in alloc; "{made}\nStore (29) at 0\n{made}\n{corrected}\n")?;
+    answers_are(alloc, (1, 0), &wanted)
 }
 
+/// Two runs run out of memory, and the store fails in the third. The fourth is still looked at.
 #[test]
 fn runs_after_three_losses_are_answered(rt: HostRuntime) -> Result<(), Fail> {
-    let alloc = rt.alloc();
-    three_are_lost(alloc, &wanted_replies(alloc)?)
+    let lost = "NoMemory (28) at 0\nNoMemory (28) at 0\nStore (29) at 0";
+    let wanted = format!(in rt.alloc(); "{lost}\n{}\n", unknown(rt.alloc())?)?;
+    answers_are(rt.alloc(), (0, 2), &wanted)
 }

@@ -1,9 +1,10 @@
-//! Files in memory that fail after a number of calls, and what a kill and a crash leave of them.
+//! Files in memory that fail after a number of calls, what a kill and a crash leave of them, and a crash at each call.
 use sqlite::{Connection, FileStore, Options};
 use sqlite_disk::{Crash, Disk, Files, Fuse, Memory};
 use std::alloc::Global;
 use std::test::Fail;
 use upd_sqlite::Rising;
+use upd_testkit::check::holds;
 
 /// A file in memory that fails after a number of calls.
 pub type Fused = Fuse<Memory>;
@@ -33,18 +34,23 @@ impl Bytes {
     }
 
     /// What is found after a crash of the machine: the bytes that were synced.
-    pub fn synced(alloc: Global, mut files: Files<Fused>) -> Result<Bytes, Fail> {
+    fn synced(alloc: Global, mut files: Files<Fused>) -> Result<Bytes, Fail> {
         files.log.crash();
         files.db.crash();
         Bytes::written(alloc, &files)
     }
 
-    /// Files of these bytes that fail after these calls.
-    pub fn files(&self, alloc: Global, calls: Calls) -> Result<Files<Fused>, Fail> {
+    /// Files of these bytes whose log and database file fail after these numbers of calls.
+    fn files(&self, alloc: Global, (log, db): (u64, u64)) -> Result<Files<Fused>, Fail> {
         Ok(Files {
-            log: file_of(alloc, &self.log, calls.log)?,
-            db: file_of(alloc, &self.db, calls.db)?,
+            log: file_of(alloc, &self.log, log)?,
+            db: file_of(alloc, &self.db, db)?,
         })
+    }
+
+    /// Files of these bytes that don't fail.
+    pub fn whole_files(&self, alloc: Global) -> Result<Files<Fused>, Fail> {
+        self.files(alloc, (u64::MAX, u64::MAX))
     }
 }
 
@@ -54,19 +60,6 @@ fn file_of(alloc: Global, bytes: &[u8], calls: u64) -> Result<Fused, Fail> {
     file.sync()?;
     Ok(Fuse::new(file, calls))
 }
-
-/// The number of calls of the log and of the database file that pass.
-#[derive(Clone, Copy, Debug)]
-pub struct Calls {
-    pub log: u64,
-    pub db: u64,
-}
-
-/// No call fails.
-pub const ALL: Calls = Calls {
-    log: u64::MAX,
-    db: u64::MAX,
-};
 
 /// The database in files of any kind, which come back if it can't be opened.
 fn opened_on<D: Disk + Drop>(
@@ -118,4 +111,58 @@ pub fn work_in<D: Disk + Drop, W: Work>(
         }
         Err(files) => Ok((None, files)),
     }
+}
+
+/// What a call of the disk that fails may cut off.
+pub trait Cut {
+    /// What was done before the cut.
+    type Part: Drop;
+
+    /// Does it with files: what was done, if a call failed, and the files.
+    fn cut(
+        &self,
+        alloc: Global,
+        files: Files<Fused>,
+    ) -> Result<(Option<Self::Part>, Files<Fused>), Fail>;
+
+    /// What is found after a cut is right.
+    fn left_holds(&self, alloc: Global, part: &Self::Part, left: &Bytes) -> Result<(), Fail>;
+}
+
+/// A kill of the process and a crash of the machine after these calls: whether a call failed.
+fn crashes<C: Cut>(alloc: Global, it: &C, bytes: &Bytes, calls: (u64, u64)) -> Result<bool, Fail> {
+    let (part, files) = it.cut(alloc, bytes.files(alloc, calls)?)?;
+    let Some(part) = part else {
+        return Ok(false);
+    };
+    it.left_holds(alloc, &part, &Bytes::written(alloc, &files)?)?;
+    it.left_holds(alloc, &part, &Bytes::synced(alloc, files)?)?;
+    Ok(true)
+}
+
+/// A crash at each call of the log, or of the database file: the number of them.
+fn all_crashes<C: Cut>(alloc: Global, it: &C, bytes: &Bytes, of_log: bool) -> Result<u64, Fail> {
+    for at in 0..10_000 {
+        let calls = if of_log {
+            (at, u64::MAX)
+        } else {
+            (u64::MAX, at)
+        };
+        if !crashes(alloc, it, bytes, calls)? {
+            return Ok(at);
+        }
+    }
+    Err("no end of crashes".into())
+}
+
+/// A crash at each call of the log, then at each of the database file; there are more than `least`.
+pub fn survives_crashes<C: Cut>(
+    alloc: Global,
+    it: &C,
+    bytes: &Bytes,
+    least: u64,
+) -> Result<(), Fail> {
+    let of_log = all_crashes(alloc, it, bytes, true)?;
+    let count = all_crashes(alloc, it, bytes, false)?.saturating_add(of_log);
+    holds(("crashes", count), count > least)
 }

@@ -8,11 +8,7 @@
 #![tactic(auto)]
 
 #[cfg(test)]
-mod against_reference;
-#[cfg(test)]
 mod changes_of_runs;
-#[cfg(test)]
-mod committing;
 #[cfg(test)]
 mod decks_read;
 #[cfg(test)]
@@ -28,21 +24,13 @@ mod migrated;
 #[cfg(test)]
 mod migration_crashes;
 #[cfg(test)]
-mod mirrored_runs;
-#[cfg(test)]
 mod older_files;
 #[cfg(test)]
-mod random_arrivals;
+mod random_lists;
 #[cfg(test)]
 mod refused_directives;
 #[cfg(test)]
-mod sqlite_rows;
-#[cfg(test)]
 mod status_updates;
-#[cfg(test)]
-mod steps;
-#[cfg(test)]
-mod store_answers;
 #[cfg(test)]
 mod stored;
 #[cfg(test)]

@@ -1,5 +1,5 @@
 //! A crash at each call of the disk: the file opened again is the old one or the migrated one, and can be migrated.
-use crate::fused_files::{ALL, Bytes, Calls, Fused, Work, work_in};
+use crate::fused_files::{Bytes, Cut, Fused, Work, survives_crashes, work_in};
 use crate::older_files::Older;
 use sqlite::Connection;
 use sqlite_disk::Files;
@@ -10,41 +10,55 @@ use upd_sqlite::Rising;
 use upd_testkit::check::{holds, same};
 use upd_text::FaultKind;
 
-/// Makes the tables and rows of an older file.
-#[derive(Drop)]
-struct Make(Older);
-
-impl Work for Make {
-    type Outcome = ();
-
-    fn over<S: Rising + Drop>(
-        self,
-        _: Global,
-        mut conn: Connection<S>,
-    ) -> Result<((), Connection<S>), Fail> {
-        self.0.make(&mut conn)?;
-        Ok(((), conn))
-    }
-}
-
-/// Does this with files of these bytes, which don't fail: the files.
-fn work_on<W: Work>(alloc: Global, bytes: &Bytes, work: W) -> Result<Files<Fused>, Fail> {
-    match work_in(alloc, bytes.files(alloc, ALL)?, work)? {
-        (Some(_), files) => Ok(files),
-        (None, _) => Err("the files can't be opened".into()),
-    }
-}
-
-fn made(alloc: Global, file: Older) -> Result<Bytes, Fail> {
-    let files = work_on(alloc, &Bytes::none(alloc), Make(file))?;
-    Bytes::written(alloc, &files)
+/// What is done with the database of an older file.
+#[derive(Clone, Copy)]
+enum Task {
+    /// Its tables and rows are made.
+    Make,
+    /// It is migrated, until a call fails.
+    Migrate,
+    /// It is the old one or the migrated one, and is migrated.
+    Hold,
 }
 
 /// Migrates a database: whether that ends. A migration that doesn't end has met a failed call, which is its fault.
-#[derive(Drop)]
-struct Migrate;
+fn is_migrated<S: Rising>(alloc: Global, conn: &mut Connection<S>) -> Result<bool, Fail> {
+    match migrate(alloc, conn) {
+        Ok(()) => Ok(true),
+        Err(fault) => {
+            same("the fault", fault, FaultKind::Store.without_line())?;
+            Ok(false)
+        }
+    }
+}
 
-impl Work for Migrate {
+/// A task with an older file.
+#[derive(Clone, Copy)]
+struct Migration(Older, Task);
+
+impl Migration {
+    /// Does it: whether it ends.
+    fn done<S: Rising>(self, alloc: Global, conn: &mut Connection<S>) -> Result<bool, Fail> {
+        match self.1 {
+            Task::Make => self.0.make(conn)?,
+            Task::Migrate => return is_migrated(alloc, conn),
+            Task::Hold => {
+                self.0.is_either(alloc, conn)?;
+                migrate(alloc, conn)?;
+                self.0.has(alloc, conn, 3)?;
+            }
+        }
+        Ok(true)
+    }
+
+    /// Does it with files: whether it ends, and the files.
+    fn done_in(self, alloc: Global, files: Files<Fused>) -> Result<(bool, Files<Fused>), Fail> {
+        let (is_done, files) = work_in(alloc, files, self)?;
+        Ok((is_done.unwrap_or(false), files))
+    }
+}
+
+impl Work for Migration {
     type Outcome = bool;
 
     fn over<S: Rising + Drop>(
@@ -52,99 +66,36 @@ impl Work for Migrate {
         alloc: Global,
         mut conn: Connection<S>,
     ) -> Result<(bool, Connection<S>), Fail> {
-        match migrate(alloc, &mut conn) {
-            Ok(()) => Ok((true, conn)),
-            Err(fault) => {
-                same("the fault", fault, FaultKind::Store.without_line())?;
-                Ok((false, conn))
-            }
-        }
+        let is_done = self.done(alloc, &mut conn)?;
+        Ok((is_done, conn))
     }
 }
 
-/// Migrates the files until a call fails: whether none did, and the files.
-fn migrated(alloc: Global, files: Files<Fused>) -> Result<(bool, Files<Fused>), Fail> {
-    let (is_migrated, files) = work_in(alloc, files, Migrate)?;
-    Ok((is_migrated.unwrap_or(false), files))
-}
+impl Cut for Older {
+    type Part = ();
 
-/// A database holds the old file or the migrated one, and is migrated.
-#[derive(Drop)]
-struct Hold(Older);
-
-impl Work for Hold {
-    type Outcome = ();
-
-    fn over<S: Rising + Drop>(
-        self,
-        alloc: Global,
-        mut conn: Connection<S>,
-    ) -> Result<((), Connection<S>), Fail> {
-        self.0.is_either(alloc, &mut conn)?;
-        migrate(alloc, &mut conn)?;
-        self.0.is_after(alloc, &mut conn)?;
-        Ok(((), conn))
+    fn cut(&self, alloc: Global, files: Files<Fused>) -> Result<(Option<()>, Files<Fused>), Fail> {
+        let (is_migrated, files) = Migration(*self, Task::Migrate).done_in(alloc, files)?;
+        Ok((if is_migrated { None } else { Some(()) }, files))
     }
-}
 
-/// What a crash left is the old file or the migrated one, and is migrated.
-fn left_holds(alloc: Global, file: Older, left: &Bytes) -> Result<(), Fail> {
-    work_on(alloc, left, Hold(file))?;
-    Ok(())
-}
-
-/// What is found after a kill holds, and what is found after a crash.
-fn both_hold(alloc: Global, file: Older, files: Files<Fused>) -> Result<(), Fail> {
-    left_holds(alloc, file, &Bytes::written(alloc, &files)?)?;
-    left_holds(alloc, file, &Bytes::synced(alloc, files)?)
-}
-
-/// A kill of the process and a crash of the machine after these calls: whether a call failed.
-fn crashes(alloc: Global, file: Older, bytes: &Bytes, calls: Calls) -> Result<bool, Fail> {
-    let (is_migrated, files) = migrated(alloc, bytes.files(alloc, calls)?)?;
-    if is_migrated {
-        return Ok(false);
+    fn left_holds(&self, alloc: Global, _: &(), left: &Bytes) -> Result<(), Fail> {
+        let files = left.whole_files(alloc)?;
+        let (is_done, _) = Migration(*self, Task::Hold).done_in(alloc, files)?;
+        holds("the files can be opened", is_done)
     }
-    both_hold(alloc, file, files)?;
-    Ok(true)
-}
-
-/// A crash at each call of the log: the number of them.
-fn log_crashes(alloc: Global, file: Older, bytes: &Bytes) -> Result<u64, Fail> {
-    for log in 0..10_000 {
-        let calls = Calls { log, db: u64::MAX };
-        if !crashes(alloc, file, bytes, calls)? {
-            return Ok(log);
-        }
-    }
-    Err("no end of crashes".into())
-}
-
-/// A crash at each call of the database file: the number of them.
-fn db_crashes(alloc: Global, file: Older, bytes: &Bytes) -> Result<u64, Fail> {
-    for db in 0..10_000 {
-        let calls = Calls { log: u64::MAX, db };
-        if !crashes(alloc, file, bytes, calls)? {
-            return Ok(db);
-        }
-    }
-    Err("no end of crashes".into())
 }
 
 /// A crash at each call of the log, then at each of the database file; there are more than ten.
-fn survives_crashes(alloc: Global, file: Older) -> Result<(), Fail> {
-    let bytes = made(alloc, file)?;
-    let log = log_crashes(alloc, file, &bytes)?;
-    let crashes = db_crashes(alloc, file, &bytes)?.saturating_add(log);
-    holds(("crashes", crashes), crashes > 10)
+fn survives(alloc: Global, file: Older) -> Result<(), Fail> {
+    let files = Bytes::none(alloc).whole_files(alloc)?;
+    let (is_made, files) = Migration(file, Task::Make).done_in(alloc, files)?;
+    holds("the file is made", is_made)?;
+    survives_crashes(alloc, &file, &Bytes::written(alloc, &files)?, 10)
 }
 
 #[test]
-fn a_migration_from_the_first_schema_survives_crashes(rt: HostRuntime) -> Result<(), Fail> {
-    survives_crashes(rt.alloc(), Older::First)
-}
-
-#[test]
-fn a_migration_from_the_second_schema_survives_crashes(rt: HostRuntime) -> Result<(), Fail> {
-    survives_crashes(rt.alloc(), Older::Second)
+fn migrations_survive_crashes(rt: HostRuntime) -> Result<(), Fail> {
+    survives(rt.alloc(), Older::First)?;
+    survives(rt.alloc(), Older::Second)
 }

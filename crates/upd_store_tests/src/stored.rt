@@ -1,15 +1,13 @@
-//! Runs over tables of SQLite.
-use crate::committing::{adopted, apply_and_commit, initialized, stored_run};
-use sqlite::{Connection, MemStore};
+//! Runs over tables of SQLite, and databases that hold no library.
+use crate::empty_stores::{Fresh, Tables, adopted, refused};
+use sqlite::Connection;
 use std::alloc::Global;
 use std::test::Fail;
-use upd_core::Library;
 use upd_row_store::RowStore;
 use upd_store::SqlStore;
-use upd_testkit::applying::after;
-use upd_testkit::check::{same, same_text};
-use upd_testkit::listings::listings;
-use upd_text::Fault;
+use upd_testkit::asks::Ask;
+use upd_testkit::check::{holds, same};
+use upd_testkit::session::Session;
 
 const DECK_A: &str = "*DECK A\nONE\nTWO\nTHREE\n";
 
@@ -17,81 +15,47 @@ const DECK_B: &str = "*DECK B\nBEE \"quoted\" \\ \tend\n";
 
 const REPLACED: &str = "*IDENT X\n*DELETE A.2\nNEW\n";
 
-const YANKED: &str = "*IDENT Y\n*YANK X\n";
+const RUNS: &[&str] = &[DECK_A, DECK_B, REPLACED, "*IDENT Y\n*YANK X\n"];
 
-/// A new library in memory.
-pub fn made(alloc: Global) -> Result<SqlStore<MemStore>, Fail> {
-    initialized(Connection::open_in_memory(alloc)?)
-}
+const LISTINGS: &[Ask<'static>] = &[Ask::Idents, Ask::Deck("A"), Ask::Deck("B"), Ask::Yanks];
 
 /// The same library, adopted again.
-fn again(store: SqlStore<MemStore>) -> Result<SqlStore<MemStore>, Fail> {
+fn again(store: Tables) -> Result<Tables, Fail> {
     adopted(store.into_connection())
 }
 
-const RUNS: [&str; 4] = [DECK_A, DECK_B, REPLACED, YANKED];
-
-/// A library after these runs, numbered from 1.
-fn made_of(alloc: Global, runs: &[&str]) -> Result<SqlStore<MemStore>, Fail> {
-    let mut store = made(alloc)?;
+/// The library after these runs, numbered from 1, with the listings that the reference desk has. It is adopted again
+/// after each run.
+fn stored(alloc: Global, runs: &[&str]) -> Result<Tables, Fail> {
+    let mut session = Session::new(alloc, Tables::fresh(alloc)?);
     for (number, run) in (1..).zip(runs) {
-        apply_and_commit(alloc, &mut store, number, run)?;
+        session.ask(Ask::Lyon(number, "full", run))?;
+        session = Session::over(again(session.desk.close())?, session.reference);
     }
-    Ok(store)
+    session.ask_all(LISTINGS)?;
+    Ok(session.desk.close())
 }
 
-/// The same, adopted again after each run.
-fn made_again_of(alloc: Global, runs: &[&str]) -> Result<SqlStore<MemStore>, Fail> {
-    let mut store = made(alloc)?;
-    for (number, run) in (1..).zip(runs) {
-        apply_and_commit(alloc, &mut store, number, run)?;
-        store = again(store)?;
-    }
-    Ok(store)
+/// The run of this number is stored with these bytes.
+fn stores(alloc: Global, store: &mut Tables, number: u64, wanted: &str) -> Result<(), Fail> {
+    let run = store.kept_run(alloc, "LYON", number)?.ok_or("no run")?;
+    same(number, run.bytes.as_slice(), wanted.as_bytes())
 }
 
-/// Two libraries have the same listings, with those of a deck.
-fn lists_the_same(
-    alloc: Global,
-    deck: &str,
-    found: &Library,
-    wanted: &Library,
-) -> Result<(), Fail> {
-    let found = listings(alloc, found, deck)?;
-    let wanted = listings(alloc, wanted, deck)?;
-    same_text(deck, &found, &wanted)
-}
-
-/// The stored library is the one that the runs make.
-fn has_the_runs(alloc: Global, store: &mut SqlStore<MemStore>) -> Result<(), Fail> {
-    let found = store.load(alloc)?;
-    let wanted = after(alloc, &RUNS)?;
-    lists_the_same(alloc, "A", &found, &wanted)?;
-    lists_the_same(alloc, "B", &found, &wanted)
-}
-
-/// The run of this number is stored with these bytes, or there is "none".
-fn stores(
-    alloc: Global,
-    store: &mut SqlStore<MemStore>,
-    number: u64,
-    wanted: &str,
-) -> Result<(), Fail> {
-    same_text("the run", &stored_run(alloc, store, number)?, wanted)
+fn stores_none(alloc: Global, store: &mut Tables, number: u64) -> Result<(), Fail> {
+    holds(number, store.kept_run(alloc, "LYON", number)?.is_none())
 }
 
 #[test]
 fn what_runs_leave_is_stored(rt: HostRuntime) -> Result<(), Fail> {
-    let alloc = rt.alloc();
-    let mut store = made_again_of(alloc, &RUNS)?;
-    has_the_runs(alloc, &mut store)?;
-    stores(alloc, &mut store, 3, REPLACED)?;
-    stores(alloc, &mut store, 5, "none")?;
+    let mut store = stored(rt.alloc(), RUNS)?;
+    stores(rt.alloc(), &mut store, 3, REPLACED)?;
+    stores_none(rt.alloc(), &mut store, 5)?;
     same("failures", store.failures(), 0)
 }
 
 /// The marks that a site's settlements answer.
-fn settled(alloc: Global, store: &mut SqlStore<MemStore>) -> Result<[u64; 4], Fail> {
+fn settled(alloc: Global, store: &mut Tables) -> Result<[u64; 4], Fail> {
     Ok([
         store.mark(alloc, "LYON")?,
         store.settle_to(alloc, "LYON", 1)?,
@@ -100,65 +64,43 @@ fn settled(alloc: Global, store: &mut SqlStore<MemStore>) -> Result<[u64; 4], Fa
     ])
 }
 
-/// Run 1 is removed, and run 2 is stored.
-fn stores_second(alloc: Global, mut store: SqlStore<MemStore>) -> Result<(), Fail> {
-    same("the mark", store.mark(alloc, "LYON")?, 1)?;
-    stores(alloc, &mut store, 1, "none")?;
-    stores(alloc, &mut store, 2, DECK_B)
-}
-
 #[test]
 fn settled_runs_are_removed(rt: HostRuntime) -> Result<(), Fail> {
-    let alloc = rt.alloc();
-    let mut store = made_of(alloc, &[DECK_A, DECK_B])?;
-    same("the marks", settled(alloc, &mut store)?, [0, 1, 1, 7])?;
-    stores_second(alloc, again(store)?)
+    let mut store = stored(rt.alloc(), &[DECK_A, DECK_B])?;
+    same("the marks", settled(rt.alloc(), &mut store)?, [0, 1, 1, 7])?;
+    let mut store = again(store)?;
+    same("the mark", store.mark(rt.alloc(), "LYON")?, 1)?;
+    stores_none(rt.alloc(), &mut store, 1)?;
+    stores(rt.alloc(), &mut store, 2, DECK_B)
 }
 
-type Taken = Result<SqlStore<MemStore>, (Fault, Connection<MemStore>)>;
+/// Changes of a library, and the version at which it is refused then.
+const OTHERS: [(&str, u32); 2] = [
+    ("DELETE FROM meta", 0),
+    ("CREATE TABLE other (k INTEGER PRIMARY KEY) STRICT", 3),
+];
 
-/// No library is made or adopted, for this fault; the connection comes back.
-fn is_refused(alloc: Global, taken: Taken, wanted: &str) -> Result<Connection<MemStore>, Fail> {
-    match taken {
-        Ok(_) => Err("there is a library".into()),
-        Err((fault, conn)) => {
-            same_text("the fault", &format!(in alloc; "{fault}")?, wanted)?;
-            Ok(conn)
-        }
-    }
+/// A changed library is neither adopted nor made again.
+fn is_refused(alloc: Global, change: &str, at: u32) -> Result<(), Fail> {
+    let mut conn = Tables::fresh(alloc)?.into_connection();
+    conn.execute(change, &[])?;
+    let conn = refused(SqlStore::adopt(conn), at)?;
+    refused(SqlStore::init(conn), at)?;
+    Ok(())
 }
 
 #[test]
 fn a_library_is_made_once(rt: HostRuntime) -> Result<(), Fail> {
-    let alloc = rt.alloc();
-    let conn = made(alloc)?.into_connection();
-    is_refused(alloc, SqlStore::init(conn), "Store (29) at 3")?;
+    let conn = Tables::fresh(rt.alloc())?.into_connection();
+    refused(SqlStore::init(conn), 3)?;
     Ok(())
 }
 
 #[test]
-fn an_empty_database_is_refused(rt: HostRuntime) -> Result<(), Fail> {
-    let alloc = rt.alloc();
-    let conn = Connection::open_in_memory(alloc)?;
-    is_refused(alloc, SqlStore::adopt(conn), "Store (29) at 0")?;
-    Ok(())
-}
-
-#[test]
-fn a_database_without_a_version_is_refused(rt: HostRuntime) -> Result<(), Fail> {
-    let alloc = rt.alloc();
-    let mut conn = made(alloc)?.into_connection();
-    conn.execute("DELETE FROM meta", &[])?;
-    let conn = is_refused(alloc, SqlStore::adopt(conn), "Store (29) at 0")?;
-    is_refused(alloc, SqlStore::init(conn), "Store (29) at 0")?;
-    Ok(())
-}
-
-#[test]
-fn a_database_with_a_further_table_is_refused(rt: HostRuntime) -> Result<(), Fail> {
-    let alloc = rt.alloc();
-    let mut conn = made(alloc)?.into_connection();
-    conn.execute("CREATE TABLE other (k INTEGER PRIMARY KEY) STRICT", &[])?;
-    is_refused(alloc, SqlStore::adopt(conn), "Store (29) at 3")?;
+fn other_databases_are_refused(rt: HostRuntime) -> Result<(), Fail> {
+    refused(SqlStore::adopt(Connection::open_in_memory(rt.alloc())?), 0)?;
+    for (change, at) in OTHERS {
+        is_refused(rt.alloc(), change, at)?;
+    }
     Ok(())
 }

@@ -1,6 +1,5 @@
 //! Each public call of stores, the desk and its wire once, by its path, with an answer worked by hand.
-use crate::committing::adopted;
-use crate::stored::made;
+use crate::empty_stores::{Fresh, Tables, adopted};
 use crate::written_store::WrittenStore;
 use sqlite::MemStore;
 use std::alloc::Global;
@@ -20,9 +19,8 @@ const DECK: &str = "*DECK A\nONE\n";
 const LINE: &str =
     "ONE                                                                              A             2\n";
 
-fn is_line(file: &CompileFile) -> Result<(), Fail> {
-    same("lines", file.lines, 1)?;
-    same_text("the line", std::str::from_utf8(&file.bytes)?, LINE)
+fn is_text(found: &[u8], wanted: &str) -> Result<(), Fail> {
+    same_text("the text", std::str::from_utf8(found)?, wanted)
 }
 
 /// The row of run 1 of site LYON.
@@ -37,79 +35,40 @@ fn row(alloc: Global) -> Result<RunRow, Fail> {
     })
 }
 
-/// Whether run 1 of site LYON is stored.
-fn has_run<S: RowStore>(alloc: Global, store: &mut S) -> Result<bool, Fail> {
-    Ok(store.kept_run(alloc, "LYON", 1)?.is_some())
-}
-
-/// The changes of the run that introduces deck A.
-fn changes(alloc: Global) -> Result<Vec<Change>, Fail> {
-    Ok(applied(&mut Library::new(alloc), DECK)?.changes)
-}
-
 /// Commits the run that introduces deck A, whose key is free.
 fn commit_deck<S: RowStore>(alloc: Global, store: &mut S) -> Result<(), Fail> {
-    holds("a free key", !has_run(alloc, store)?)?;
-    Ok(store.commit(alloc, &changes(alloc)?, row(alloc)?)?)
-}
-
-/// The number of decks of a load.
-fn all_decks<S: RowStore>(alloc: Global, store: &mut S) -> Result<usize, Fail> {
-    Ok(store.load(alloc)?.decks().len())
-}
-
-/// The number of decks of a load of deck 1.
-fn one_deck<S: RowStore>(alloc: Global, store: &mut S) -> Result<usize, Fail> {
-    Ok(store.load_decks(alloc, &[1])?.decks().len())
-}
-
-/// The number of decks that hold A.2.
-fn decks_of_card<S: RowStore>(alloc: Global, store: &mut S) -> Result<usize, Fail> {
-    Ok(store.decks_of(alloc, &[card_ref("A.2")?])?.len())
+    holds("a free key", store.kept_run(alloc, "LYON", 1)?.is_none())?;
+    let changes: Vec<Change> = applied(&mut Library::new(alloc), DECK)?.changes;
+    Ok(store.commit(alloc, &changes, row(alloc)?)?)
 }
 
 /// The number of decks of a load, of a load of deck 1, and of the decks that hold A.2.
 fn loads<S: RowStore>(alloc: Global, store: &mut S) -> Result<[usize; 3], Fail> {
     Ok([
-        all_decks(alloc, store)?,
-        one_deck(alloc, store)?,
-        decks_of_card(alloc, store)?,
+        store.load(alloc)?.decks().len(),
+        store.load_decks(alloc, &[1])?.decks().len(),
+        store.decks_of(alloc, &[card_ref("A.2")?])?.len(),
     ])
 }
 
-/// The number of statuses of A.2, asked 10,001 times.
-fn statuses_of_card<S: RowStore>(alloc: Global, store: &mut S) -> Result<usize, Fail> {
-    let cards = vec![in alloc; card_ref("A.2")?; 10_001]?;
-    Ok(store.states_of(alloc, &cards)?.states.len())
-}
-
-/// The number of decks with active cards, and of all statuses and that of A.2. The run commits no status.
+/// The number of decks with active cards, of all statuses, and of those of A.2, asked 10,001 times. The run commits no
+/// status.
 fn statuses<S: RowStore>(alloc: Global, store: &mut S) -> Result<[usize; 3], Fail> {
+    let cards = vec![in alloc; card_ref("A.2")?; 10_001]?;
     Ok([
         store.load_active(alloc)?.decks.len(),
         store.load_states(alloc)?.states.len(),
-        statuses_of_card(alloc, store)?,
+        store.states_of(alloc, &cards)?.states.len(),
     ])
 }
 
-/// The run is stored with its bytes.
-fn is_stored<S: RowStore>(alloc: Global, store: &mut S) -> Result<(), Fail> {
-    let run = store.kept_run(alloc, "LYON", 1)?.ok_or("no run")?;
-    same("the run", run.bytes.as_slice(), DECK.as_bytes())
-}
-
-/// The run is stored until its site settles it.
+/// The run is stored with its bytes, until its site settles it.
 fn is_settled<S: RowStore>(alloc: Global, store: &mut S) -> Result<(), Fail> {
-    is_stored(alloc, store)?;
-    let marks = (
-        store.mark(alloc, "LYON")?,
-        store.settle_to(alloc, "LYON", 1)?,
-    );
-    same(
-        "the marks, a stored run",
-        (marks, has_run(alloc, store)?),
-        ((0, 1), false),
-    )
+    let run = store.kept_run(alloc, "LYON", 1)?.ok_or("no run")?;
+    is_text(&run.bytes, DECK)?;
+    same("the mark", store.mark(alloc, "LYON")?, 0)?;
+    same("the mark", store.settle_to(alloc, "LYON", 1)?, 1)?;
+    holds("a free key", store.kept_run(alloc, "LYON", 1)?.is_none())
 }
 
 /// Each call of a store answers as it should.
@@ -122,26 +81,20 @@ fn answers<S: RowStore>(alloc: Global, store: &mut S) -> Result<(), Fail> {
 }
 
 #[test]
-fn a_store_over_lists_answers(rt: HostRuntime) -> Result<(), Fail> {
-    answers(rt.alloc(), &mut ListStore::new(rt.alloc()))
-}
-
-#[test]
-fn a_store_written_to_the_list_of_calls_answers(rt: HostRuntime) -> Result<(), Fail> {
+fn stores_over_lists_answer(rt: HostRuntime) -> Result<(), Fail> {
+    answers(rt.alloc(), &mut ListStore::new(rt.alloc()))?;
     answers(rt.alloc(), &mut WrittenStore::new(rt.alloc()))
 }
 
 #[test]
 fn a_store_over_sqlite_answers(rt: HostRuntime) -> Result<(), Fail> {
-    answers(
-        rt.alloc(),
-        &mut adopted(made(rt.alloc())?.into_connection())?,
-    )
+    let conn = Tables::fresh(rt.alloc())?.into_connection();
+    answers(rt.alloc(), &mut adopted(conn)?)
 }
 
 #[test]
 fn rows_of_a_connection_are_loaded_and_migrated(rt: HostRuntime) -> Result<(), Fail> {
-    let mut store: SqlStore<MemStore> = made(rt.alloc())?;
+    let mut store: SqlStore<MemStore> = Tables::fresh(rt.alloc())?;
     commit_deck(rt.alloc(), &mut store)?;
     let mut conn = store.into_connection();
     migrate(rt.alloc(), &mut conn)?;
@@ -152,10 +105,10 @@ fn rows_of_a_connection_are_loaded_and_migrated(rt: HostRuntime) -> Result<(), F
 /// A run that introduces deck A is accepted.
 fn accepts_deck<S: RowStore>(alloc: Global, desk: &mut Desk<S>) -> Result<(), Fail> {
     let reply: Reply = desk.arrive(alloc, "LYON", 1, "quick", DECK.as_bytes())?;
+    same("accepted, work", (reply.accepted, desk.work()), (true, 2))?;
     let wanted = "{\"compile\":\"\",\"idents\":[\"A\"],\"lines\":0,\"mode\":\"quick\",\"run\":1,\
 \"site\":\"LYON\",\"state\":\"accepted\"}";
-    same_text("the reply", std::str::from_utf8(&reply.text)?, wanted)?;
-    same("accepted, work", (reply.accepted, desk.work()), (true, 2))
+    is_text(&reply.text, wanted)
 }
 
 /// A desk over lists with deck A.
@@ -165,35 +118,19 @@ fn desk(alloc: Global) -> Result<Desk<ListStore>, Fail> {
     Ok(desk)
 }
 
-/// The listings of deck A, of its line, of the idents and of the yanks.
-fn listings<S: RowStore>(alloc: Global, desk: &mut Desk<S>) -> Result<[Vec<u8>; 4], Fail> {
-    Ok([
-        desk.deck_list(alloc, &name("A")?)?,
-        desk.card_list(alloc, card_ref("A.2")?)?,
-        desk.ident_list(alloc)?,
-        desk.yank_list(alloc)?,
-    ])
-}
-
-const LISTINGS: [&str; 4] = [
-    "DECK A\nA A.1 *DECK A\nA A.2 ONE\n",
-    "CARD A.2\nDECK A\nTEXT ONE\nSTATUS active\nENTRY A on\n",
-    "1 A deck held\n",
-    "",
-];
-
-/// The listings are as they should be.
-fn are_listings(found: &[Vec<u8>; 4]) -> Result<(), Fail> {
-    for (found, wanted) in found.iter().zip(LISTINGS) {
-        same_text("a listing", std::str::from_utf8(found)?, wanted)?;
-    }
-    Ok(())
-}
-
 /// The decks of a desk are compiled and listed.
 fn is_written<S: RowStore>(alloc: Global, desk: &mut Desk<S>) -> Result<(), Fail> {
-    is_line(&desk.full_compile(alloc)?)?;
-    are_listings(&listings(alloc, desk)?)
+    let file: CompileFile = desk.full_compile(alloc)?;
+    same("lines", file.lines, 1)?;
+    is_text(&file.bytes, LINE)?;
+    is_text(
+        &desk.deck_list(alloc, &name("A")?)?,
+        "DECK A\nA A.1 *DECK A\nA A.2 ONE\n",
+    )?;
+    let card = "CARD A.2\nDECK A\nTEXT ONE\nSTATUS active\nENTRY A on\n";
+    is_text(&desk.card_list(alloc, card_ref("A.2")?)?, card)?;
+    is_text(&desk.ident_list(alloc)?, "1 A deck held\n")?;
+    is_text(&desk.yank_list(alloc)?, "")
 }
 
 /// A site settles its run, and the store that the desk leaves has its mark.
@@ -235,7 +172,7 @@ fn is_served<S: RowStore>(alloc: Global, desk: &mut Desk<S>) -> Result<(), Fail>
     serve_one(alloc, &mut request, &mut output, desk)?;
     let wanted = "HTTP/1.1 200 OK\r\nContent-Type: text/plain\r\nContent-Length: 14\r\n\
 Connection: close\r\n\r\n1 A deck held\n";
-    same_text("the answer", std::str::from_utf8(&output)?, wanted)
+    is_text(&output, wanted)
 }
 
 #[test]

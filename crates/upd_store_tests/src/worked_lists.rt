@@ -1,17 +1,34 @@
 //! Worked lists of runs, over both stores. A run in full mode shows all active cards in its reply.
-use crate::empty_stores::{Fresh, fresh_session};
-use crate::steps::Step::{Accepts, Compiles, Fails, Paris, Refuses, Says};
-use crate::steps::{Step, take, take_all, take_list};
-use sqlite::MemStore;
+use crate::empty_stores::{Fresh, Tables, fresh_session};
 use std::alloc::Global;
 use std::test::Fail;
 use upd_memory::ListStore;
 use upd_row_store::RowStore;
-use upd_store::SqlStore;
-use upd_testkit::asks::{Ask, lyon};
+use upd_testkit::asks::{Ask, Sent, lyon};
 use upd_testkit::check::{holds, same};
 use upd_testkit::replies::Line;
 use upd_testkit::session::Session;
+
+/// What is asked of a desk, and its answer.
+#[derive(Clone, Copy)]
+enum Step {
+    /// A run of LYON, by number, mode and text, is accepted: the idents that it introduces, and its compile lines.
+    Accepts(u64, &'static str, &'static str, &'static [&'static str], &'static [Line<'static>]),
+    /// A run of LYON, by number, mode and text, is refused, and that is stored.
+    Refuses(u64, &'static str, &'static str, &'static str),
+    /// The empty run 1 of PARIS in full mode is accepted: its compile lines.
+    Paris(&'static [Line<'static>]),
+    /// A settlement, a listing, or what has none, and a run without a reply.
+    Says(Ask<'static>, &'static str),
+    /// The full compile file.
+    Compiles(&'static [Line<'static>]),
+    /// Run 3 of LYON is accepted, with two compile lines: as many yanks, of set X and each of the one before it.
+    Chain(u32),
+    /// The number of cards that were looked at for the last run.
+    Works(u64),
+}
+
+use Step::{Accepts, Chain, Compiles, Paris, Refuses, Says, Works};
 
 const DECK_A: &str = "*DECK A\nONE\nTWO\nTHREE\n";
 
@@ -68,17 +85,14 @@ const RUNS_ACT_IN_ORDER_OF_FIRST_ARRIVAL: &[Step] = &[
 
 const UNKNOWN: Step = Refuses(3, "full", "*IDENT X\n*DELETE A.2\n", "CardUnknown 13 at 2");
 
+const CHANGED: &str = "RunChanged (26) at 0";
+
 const REFUSALS_ARE_STORED: &[Step] = &[
     UNKNOWN,
     Accepts(4, "full", DECK_A, &["A"], ALL),
     UNKNOWN,
-    Fails(3, "full", "*IDENT X\n*DELETE A.3\n", "RunChanged (26) at 0"),
-    Fails(
-        3,
-        "quick",
-        "*IDENT X\n*DELETE A.2\n",
-        "RunChanged (26) at 0",
-    ),
+    Says(Ask::Lyon(3, "full", "*IDENT X\n*DELETE A.3\n"), CHANGED),
+    Says(Ask::Lyon(3, "quick", "*IDENT X\n*DELETE A.2\n"), CHANGED),
     UNKNOWN,
     Says(Ask::Idents, "1 A deck held\n"),
     Compiles(ALL),
@@ -86,12 +100,12 @@ const REFUSALS_ARE_STORED: &[Step] = &[
 
 const RUN_NUMBERS_HAVE_ENDS: &[Step] = &[
     Accepts(999_999_999, "quick", "", &[], &[]),
-    Fails(1_000_000_000, "quick", "", "BadNumber (24) at 0"),
-    Fails(0, "quick", "", "BadNumber (24) at 0"),
+    Says(Ask::Lyon(1_000_000_000, "quick", ""), "BadNumber (24) at 0"),
+    Says(Ask::Lyon(0, "quick", ""), "BadNumber (24) at 0"),
     Says(Ask::Settle("LYON", 1_000_000_000), "BadNumber (24) at 0"),
     Says(Ask::Settle("lyon", 1), "BadSite (23) at 0"),
     Says(Ask::Settle("LYON", 999_999_999), "999999999"),
-    Fails(999_999_999, "quick", "", "Settled (27) at 0"),
+    Says(Ask::Lyon(999_999_999, "quick", ""), "Settled (27) at 0"),
 ];
 
 const A_PURGED_COMMON_DECK_IS_MISSED: &[Step] = &[
@@ -116,34 +130,49 @@ const A_SETTLED_RUN_NEVER_ACTS_AGAIN: &[Step] = &[
     DECK,
     SECOND,
     Says(Ask::Settle("LYON", 1), "1"),
-    Fails(1, "full", DECK_A, "Settled (27) at 0"),
-    Fails(1, "quick", "", "Settled (27) at 0"),
+    Says(Ask::Lyon(1, "full", DECK_A), "Settled (27) at 0"),
+    Says(Ask::Lyon(1, "quick", ""), "Settled (27) at 0"),
     SECOND,
     Paris(&[ONE, THREE]),
     Says(Ask::Settle("LYON", 3), "3"),
-    Fails(3, "full", "", "Settled (27) at 0"),
+    Says(Ask::Lyon(3, "full", ""), "Settled (27) at 0"),
     Says(Ask::Settle("LYON", 2), "3"),
     Says(Ask::Settle("LYON", 0), "BadNumber (24) at 0"),
     Paris(&[ONE, THREE]),
     Compiles(&[ONE, THREE]),
 ];
 
-const LISTS: [&[Step]; 6] = [
+/// Deck A, whose first line is deleted; that is yanked, and each yank but the last is yanked. The last is taken back: each of
+/// the yank cards is looked at, and the card that was deleted.
+const THE_LAST_OF_900_YANKS_IS_TAKEN_BACK: &[Step] = &[
+    DECK,
+    Accepts(2, "full", "*IDENT X\n*DELETE A.2\n", &["X"], &[TWO, THREE]),
+    Chain(900),
+    TAKEN_BACK,
+    Works(901),
+    TAKEN_BACK,
+    Works(0),
+];
+
+const TAKEN_BACK: Step = Accepts(4, "full", "*IDENT W\n*DELETE Y900.1\n", &["W"], ALL);
+
+const LISTS: [&[Step]; 7] = [
     A_YANK_IS_YANKED_AND_CORRECTED,
     RUNS_ACT_IN_ORDER_OF_FIRST_ARRIVAL,
     REFUSALS_ARE_STORED,
     RUN_NUMBERS_HAVE_ENDS,
     A_PURGED_COMMON_DECK_IS_MISSED,
     A_SETTLED_RUN_NEVER_ACTS_AGAIN,
+    THE_LAST_OF_900_YANKS_IS_TAKEN_BACK,
 ];
 
-/// Deck A, whose first line is deleted.
-const BEFORE_CHAIN: &[Step] = &[
-    DECK,
-    Accepts(2, "full", "*IDENT X\n*DELETE A.2\n", &["X"], &[TWO, THREE]),
-];
-
-const TAKEN_BACK: Step = Accepts(4, "full", "*IDENT W\n*DELETE Y900.1\n", &["W"], ALL);
+/// The empty run 1 of PARIS in full mode.
+const PARIS: Sent<'static> = Sent {
+    site: "PARIS",
+    number: 1,
+    mode: "full",
+    text: "",
+};
 
 /// A run of the sets Y1, Y2 and so on: Y1 yanks X, and each other one yanks the one before it.
 fn yanks_in_a_row(alloc: Global, sets: u32) -> Result<String, Fail> {
@@ -154,49 +183,49 @@ fn yanks_in_a_row(alloc: Global, sets: u32) -> Result<String, Fail> {
     Ok(text)
 }
 
-/// The chain is accepted, with two compile lines.
-fn take_yanks<S: RowStore>(session: &mut Session<S>) -> Result<(), Fail> {
-    let chain = yanks_in_a_row(session.alloc, 900)?;
-    let reply = session.ask(Ask::Run(lyon(3, "full", chain.as_str())))?;
+fn take_yanks<S: RowStore>(session: &mut Session<S>, sets: u32) -> Result<(), Fail> {
+    let chain = yanks_in_a_row(session.alloc, sets)?;
+    let reply = session.ask(Ask::Lyon(3, "full", chain.as_str()))?;
     let end = "\"lines\":2,\"mode\":\"full\",\"run\":3,\"site\":\"LYON\",\"state\":\"accepted\"}";
     holds(reply.as_str(), reply.ends_with(end))
 }
 
-/// The last yank is taken back, for which this number of cards is looked at.
-fn take_back<S: RowStore>(session: &mut Session<S>, work: u64) -> Result<(), Fail> {
-    take(session, TAKEN_BACK)?;
-    same("the work", session.desk.work(), work)
+fn take<S: RowStore>(session: &mut Session<S>, step: Step) -> Result<(), Fail> {
+    match step {
+        Accepts(number, mode, text, idents, lines) => {
+            session.accepts(lyon(number, mode, text), idents, lines)
+        }
+        Refuses(number, mode, text, fault) => session.refuses(lyon(number, mode, text), fault),
+        Paris(lines) => session.accepts(PARIS, &[], lines),
+        Says(ask, text) => session.says(ask, text),
+        Compiles(lines) => session.compiles(lines),
+        Chain(sets) => take_yanks(session, sets),
+        Works(work) => same("the work", session.desk.work(), work),
+    }
 }
 
-fn take_chain<S: RowStore>(session: &mut Session<S>) -> Result<(), Fail> {
-    take_list(session, BEFORE_CHAIN)?;
-    take_yanks(session)?;
-    // Each of the yank cards, and the card that set X deleted.
-    take_back(session, 901)?;
-    take_back(session, 0)
-}
-
-fn take_chain_from_empty<S: Fresh>(alloc: Global) -> Result<(), Fail> {
+fn take_from_empty<S: Fresh>(alloc: Global, list: &[Step]) -> Result<(), Fail> {
     let mut session = fresh_session::<S>(alloc)?;
-    take_chain(&mut session)
+    for step in list {
+        take(&mut session, *step)?;
+    }
+    Ok(())
+}
+
+/// Takes each list on an empty library of its own.
+fn take_all<S: Fresh>(alloc: Global) -> Result<(), Fail> {
+    for list in LISTS {
+        take_from_empty::<S>(alloc, list)?;
+    }
+    Ok(())
 }
 
 #[test]
 fn lists_answer_as_worked(rt: HostRuntime) -> Result<(), Fail> {
-    take_all::<ListStore>(rt.alloc(), &LISTS)
+    take_all::<ListStore>(rt.alloc())
 }
 
 #[test]
 fn tables_of_sqlite_answer_as_worked(rt: HostRuntime) -> Result<(), Fail> {
-    take_all::<SqlStore<MemStore>>(rt.alloc(), &LISTS)
-}
-
-#[test]
-fn lists_take_back_the_last_of_900_yanks(rt: HostRuntime) -> Result<(), Fail> {
-    take_chain_from_empty::<ListStore>(rt.alloc())
-}
-
-#[test]
-fn tables_of_sqlite_take_back_the_last_of_900_yanks(rt: HostRuntime) -> Result<(), Fail> {
-    take_chain_from_empty::<SqlStore<MemStore>>(rt.alloc())
+    take_all::<Tables>(rt.alloc())
 }

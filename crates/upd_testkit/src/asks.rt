@@ -26,6 +26,8 @@ pub fn lyon<'a>(number: u64, mode: &'a str, text: &'a str) -> Sent<'a> {
 #[derive(Clone, Copy, Debug)]
 pub enum Ask<'a> {
     Run(Sent<'a>),
+    /// A run of the site LYON: its number, its mode and its text.
+    Lyon(u64, &'a str, &'a str),
     Settle(&'a str, u64),
     Compile,
     Deck(&'a str),

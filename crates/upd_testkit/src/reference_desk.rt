@@ -1,16 +1,15 @@
 //! The reference desk: a library, and lists of the runs with their answers and of the marks. It stores no status.
 use crate::applying::{card_ref, name};
-use crate::asks::{Ask, Sent, shown};
-use crate::needed_decks::decks_needed;
+use crate::asks::{Ask, Sent, lyon, shown};
+use crate::replies::{accepted_with, refused};
 use std::alloc::Global;
 use std::test::Fail;
-use upd_apply::{Applied, apply};
+use upd_apply::apply;
 use upd_compile::{CompileFile, Mode, compile_file, list_card, list_deck, list_idents, list_yanks};
 use upd_core::ident::name_at;
-use upd_core::{Counted, Ident, Library, Serial};
+use upd_core::{Library, Name, Serial};
 use upd_deck::read_run;
-use upd_text::{Fault, FaultKind};
-use upd_yank::Cache;
+use upd_text::Fault;
 
 /// A run with its answer.
 #[derive(Drop)]
@@ -25,14 +24,12 @@ pub struct StoredRun {
 /// A desk that works everything out again for each answer.
 pub struct ReferenceDesk {
     pub library: Library,
-    /// The number of cards that a new cache looks at to update its statuses after the last accepted run.
-    pub work: u64,
-    /// The number of decks that the runs have needed, each when it was new.
-    pub needed: u64,
+    /// The number of accepted runs.
+    pub accepted: u64,
     /// Each run that has a reply, settled or not.
     pub stored: Vec<StoredRun>,
-    /// The settlements: a site's mark is the largest of its numbers.
-    marks: Vec<(String, u64)>,
+    /// The settlements that raised a mark: a site's mark is the largest of its numbers.
+    pub marks: Vec<(String, u64)>,
 }
 
 // Written by hand, so that a caller does not prove again how each part is dropped.
@@ -40,8 +37,7 @@ impl Drop for ReferenceDesk {
     fn drop(self) {
         let ReferenceDesk {
             library: _,
-            work: _,
-            needed: _,
+            accepted: _,
             stored: _,
             marks: _,
         } = self;
@@ -51,10 +47,15 @@ impl Drop for ReferenceDesk {
 impl ReferenceDesk {
     /// A desk over an empty library.
     pub fn new(alloc: Global) -> ReferenceDesk {
+        ReferenceDesk::over(Library::new(alloc))
+    }
+
+    /// A desk over a library, with no runs.
+    pub fn over(library: Library) -> ReferenceDesk {
+        let alloc = library.allocator();
         ReferenceDesk {
-            library: Library::new(alloc),
-            work: 0,
-            needed: 0,
+            library,
+            accepted: 0,
             stored: Vec::new(alloc),
             marks: Vec::new(alloc),
         }
@@ -66,14 +67,16 @@ impl ReferenceDesk {
 
     /// The answer as text: a reply, a listing, a mark, or a fault.
     pub fn answer(&mut self, ask: Ask<'_>) -> Result<String, Fail> {
+        let alloc = self.alloc();
         match ask {
             Ask::Run(sent) => self.arrive(sent),
+            Ask::Lyon(number, mode, text) => self.arrive(lyon(number, mode, text)),
             Ask::Settle(site, number) => self.settle(site, number),
             Ask::Compile => self.compile_all(),
-            Ask::Deck(deck) => self.deck(deck),
-            Ask::Card(card) => self.card(card),
-            Ask::Idents => shown(self.alloc(), list_idents(self.alloc(), &self.library)),
-            Ask::Yanks => shown(self.alloc(), list_yanks(self.alloc(), &self.library)),
+            Ask::Deck(deck) => shown(alloc, list_deck(alloc, &self.library, &name(deck)?)),
+            Ask::Card(card) => shown(alloc, list_card(alloc, &self.library, card_ref(card)?)),
+            Ask::Idents => shown(alloc, list_idents(alloc, &self.library)),
+            Ask::Yanks => shown(alloc, list_yanks(alloc, &self.library)),
         }
     }
 
@@ -83,39 +86,25 @@ impl ReferenceDesk {
         shown(self.alloc(), file.map(|file| file.bytes))
     }
 
-    fn deck(&self, deck: &str) -> Result<String, Fail> {
-        shown(
-            self.alloc(),
-            list_deck(self.alloc(), &self.library, &name(deck)?),
-        )
-    }
-
-    fn card(&self, card: &str) -> Result<String, Fail> {
-        shown(
-            self.alloc(),
-            list_card(self.alloc(), &self.library, card_ref(card)?),
-        )
-    }
-
     /// The answer to an arrival: its reply, or its fault.
     fn arrive(&mut self, sent: Sent<'_>) -> Result<String, Fail> {
-        if let Some(fault) = refused_on_admission(sent.site, sent.number) {
-            return self.fault(fault);
-        }
-        let Some(mode) = Mode::read(sent.mode) else {
-            return self.fault("BadMode (25) at 0");
-        };
         if let Some(fault) = self.refused_unread(sent) {
             return self.fault(fault);
         }
         match self.stored_run(sent) {
             Some(run) => self.repeat(run, sent),
-            None => self.store(mode, sent),
+            None => self.store(sent),
         }
     }
 
-    /// Why an arrival in a mode is refused before its text is read, if it is.
+    /// Why an arrival is refused before its text is read, if it is.
     fn refused_unread(&self, sent: Sent<'_>) -> Option<&'static str> {
+        if let Some(fault) = refused_on_admission(sent.site, sent.number) {
+            return Some(fault);
+        }
+        if Mode::read(sent.mode).is_none() {
+            return Some("BadMode (25) at 0");
+        }
         if sent.text.len() > 65_536 {
             return Some("RunLong (1) at 0");
         }
@@ -142,59 +131,51 @@ impl ReferenceDesk {
         }
     }
 
-    fn store(&mut self, mode: Mode, sent: Sent<'_>) -> Result<String, Fail> {
-        let need = decks_needed(&self.library, sent.text)? as u64;
-        self.needed = self.needed.saturating_add(need);
-        let answer = self.reply_to(mode, sent)?;
+    fn store(&mut self, sent: Sent<'_>) -> Result<String, Fail> {
+        let answer = self.reply_to(sent)?;
         let run = with_answer(self.alloc(), sent, answer.as_str())?;
         self.stored.push(run)?;
         Ok(answer)
     }
 
     /// The reply to a run that is new.
-    fn reply_to(&mut self, mode: Mode, sent: Sent<'_>) -> Result<String, Fail> {
-        match self.run(mode, sent) {
-            Ok(text) => Ok(text),
-            Err(fault) => refused_text(self.alloc(), sent, fault),
+    fn reply_to(&mut self, sent: Sent<'_>) -> Result<String, Fail> {
+        let mode = Mode::read(sent.mode).ok_or("no mode")?;
+        match self.run(mode, sent.text) {
+            Ok((idents, file)) => self.accepted_reply(sent, &idents, &file),
+            Err(fault) => refused_by(self.alloc(), sent, fault),
         }
     }
 
-    /// Applies a run and compiles it: the reply, or the first refusal.
-    fn run(&mut self, mode: Mode, sent: Sent<'_>) -> Result<String, Fault> {
-        let (after, applied) = self.applied(sent.text)?;
-        let text = self.compiled(mode, sent, &after, &applied)?;
-        self.work = self.work_of(&after, &applied)?;
-        self.library = after;
-        Ok(text)
-    }
-
-    /// The library after a run, and what the run did.
-    fn applied(&self, text: &str) -> Result<(Library, Applied), Fault> {
+    /// Applies a run and compiles it: the idents that it introduced and its compile file, or the first refusal.
+    fn run(&mut self, mode: Mode, text: &str) -> Result<(Vec<Serial>, CompileFile), Fault> {
         let alloc = self.alloc();
         let run = read_run(alloc, text.as_bytes())?;
         let mut after = self.library.copy()?;
         let applied = apply(alloc, &mut after, &run)?;
-        Ok((after, applied))
+        let file = compile_file(alloc, &after, &self.library, mode, &applied.compile)?;
+        self.library = after;
+        self.accepted = self.accepted.saturating_add(1);
+        Ok((applied.idents, file))
     }
 
-    /// The reply to a run that is accepted, unless its compile file is refused.
-    fn compiled(
+    fn accepted_reply(
         &self,
-        mode: Mode,
         sent: Sent<'_>,
-        after: &Library,
-        applied: &Applied,
-    ) -> Result<String, Fault> {
-        let alloc = self.alloc();
-        let file = compile_file(alloc, after, &self.library, mode, &applied.compile)?;
-        accepted_text(alloc, sent, after.idents(), &applied.idents, &file)
+        idents: &[Serial],
+        file: &CompileFile,
+    ) -> Result<String, Fail> {
+        let names = self.names(idents)?;
+        let compile = escaped(self.alloc(), &file.bytes)?;
+        accepted_with(self.alloc(), sent, &names, &compile, file.lines as usize)
     }
 
-    /// The number of cards that a new cache looks at to update its statuses after a run.
-    fn work_of(&self, after: &Library, applied: &Applied) -> Result<u64, Fault> {
-        let mut cache = Cache::build(self.alloc(), &self.library)?;
-        cache.settle(&mut Counted::new(after), applied)?;
-        Ok(cache.work())
+    fn names(&self, idents: &[Serial]) -> Result<Vec<Name>, Fail> {
+        let mut names = Vec::new(self.alloc());
+        for serial in idents {
+            names.push(name_at(self.library.idents(), *serial).ok_or("no name")?)?;
+        }
+        Ok(names)
     }
 
     /// The mark of a site.
@@ -214,9 +195,10 @@ impl ReferenceDesk {
             return self.fault(fault);
         }
         let alloc = self.alloc();
-        self.marks.push((String::from_str(alloc, site)?, number))?;
-        let mark = self.mark(site);
-        Ok(format!(in alloc; "{mark}")?)
+        if number > self.mark(site) {
+            self.marks.push((String::from_str(alloc, site)?, number))?;
+        }
+        Ok(format!(in alloc; "{}", self.mark(site))?)
     }
 }
 
@@ -245,87 +227,27 @@ fn with_answer(alloc: Global, sent: Sent<'_>, answer: &str) -> Result<StoredRun,
     })
 }
 
-fn accepted_text(
-    alloc: Global,
-    sent: Sent<'_>,
-    directory: &[Ident],
-    idents: &[Serial],
-    file: &CompileFile,
-) -> Result<String, Fault> {
-    let mut text = String::from_str(alloc, "{\"compile\":\"")?;
-    add_escaped(&mut text, &file.bytes)?;
-    text.push_str("\",\"idents\":[")?;
-    add_idents(&mut text, directory, idents)?;
-    let end = end_of_accepted(alloc, sent, file.lines)?;
-    text.push_str(end.as_str())?;
+/// Bytes as a text of JSON has them.
+fn escaped(alloc: Global, bytes: &[u8]) -> Result<String, Fail> {
+    let mut text = String::new(alloc);
+    for byte in bytes {
+        match byte {
+            b'"' => text.push_str("\\\"")?,
+            b'\\' => text.push_str("\\\\")?,
+            b'\n' => text.push_str("\\n")?,
+            b'\t' => text.push_str("\\t")?,
+            _ => text.push(char::from(*byte))?,
+        }
+    }
     Ok(text)
 }
 
-/// What comes after the idents.
-fn end_of_accepted(alloc: Global, sent: Sent<'_>, lines: u32) -> Result<String, Fault> {
-    let Sent {
-        site,
-        number,
-        mode,
-        ..
-    } = sent;
-    format!(in alloc;
-        "],\"lines\":{lines},\"mode\":\"{mode}\",\"run\":{number},\"site\":\"{site}\",\"state\":\"accepted\"}}"
-    ).map_err(|_| FaultKind::NoMemory.without_line())
-}
-
-/// Names in quotes, with commas between them.
-fn add_idents(text: &mut String, directory: &[Ident], idents: &[Serial]) -> Result<(), Fault> {
-    let mut before = "\"";
-    for serial in idents {
-        text.push_str(before)?;
-        add_name(text, directory, *serial)?;
-        text.push_str("\"")?;
-        before = ",\"";
-    }
-    Ok(())
-}
-
-fn add_name(text: &mut String, directory: &[Ident], serial: Serial) -> Result<(), Fault> {
-    match name_at(directory, serial) {
-        Some(name) => add_escaped(text, name.as_bytes()),
-        None => Ok(()),
-    }
-}
-
-fn add_escaped(text: &mut String, bytes: &[u8]) -> Result<(), Fault> {
-    for byte in bytes {
-        match escape(*byte) {
-            Some(escape) => text.push_str(escape)?,
-            None => text.push(char::from(*byte))?,
-        }
-    }
-    Ok(())
-}
-
-/// The escape of a byte in a text of JSON, if it has one.
-fn escape(byte: u8) -> Option<&'static str> {
-    match byte {
-        b'"' => Some("\\\""),
-        b'\\' => Some("\\\\"),
-        b'\n' => Some("\\n"),
-        b'\t' => Some("\\t"),
-        _ => None,
-    }
-}
-
-fn refused_text(alloc: Global, sent: Sent<'_>, fault: Fault) -> Result<String, Fail> {
-    let Sent {
-        site,
-        number,
-        mode,
-        ..
-    } = sent;
-    Ok(format!(in alloc;
-        "{{\"at\":{},\"fault\":{},\"mode\":\"{mode}\",\"name\":\"{}\",\"run\":{number},\"site\":\"{site}\",\
-\"state\":\"refused\"}}",
-        fault.at,
-        fault.kind.number(),
-        fault.kind.name()
-    )?)
+/// The reply to a run that is refused by a fault.
+fn refused_by(alloc: Global, sent: Sent<'_>, fault: Fault) -> Result<String, Fail> {
+    let (name, number) = (fault.kind.name(), fault.kind.number());
+    refused(
+        alloc,
+        sent,
+        &format!(in alloc; "{name} {number} at {}", fault.at)?,
+    )
 }

@@ -15,27 +15,15 @@ pub fn joined(alloc: Global, mut lines: Vec<String>) -> Result<String, Fail> {
     Ok(text)
 }
 
-/// The sorted lines of the tables that the reference desk would store, with the marks of these sites.
-pub fn reference_tables(
-    alloc: Global,
-    reference: &ReferenceDesk,
-    sites: &[&str],
-) -> Result<String, Fail> {
+/// The sorted lines of the tables that the reference desk would store.
+pub fn reference_tables(reference: &ReferenceDesk) -> Result<String, Fail> {
+    let alloc = reference.library.allocator();
     let mut lines = Vec::new(alloc);
-    add_tables(&mut lines, reference, sites)?;
+    lines.push(String::from_str(alloc, "meta|'version'|3")?)?;
+    add_library(&mut lines, &reference.library)?;
+    add_runs(&mut lines, reference)?;
+    add_marks(&mut lines, reference)?;
     joined(alloc, lines)
-}
-
-/// Adds the lines of all tables.
-fn add_tables(
-    lines: &mut Vec<String>,
-    reference: &ReferenceDesk,
-    sites: &[&str],
-) -> Result<(), Fail> {
-    lines.push(String::from_str(*lines.allocator(), "meta|'version'|3")?)?;
-    add_library(lines, &reference.library)?;
-    add_runs(lines, reference)?;
-    add_marks(lines, reference, sites)
 }
 
 /// Adds the lines of the runs that are not settled.
@@ -48,15 +36,10 @@ fn add_runs(lines: &mut Vec<String>, reference: &ReferenceDesk) -> Result<(), Fa
     Ok(())
 }
 
-/// Adds the lines of the marks of these sites.
-fn add_marks(
-    lines: &mut Vec<String>,
-    reference: &ReferenceDesk,
-    sites: &[&str],
-) -> Result<(), Fail> {
-    for site in sites {
-        let mark = reference.mark(site);
-        if mark > 0 {
+/// Adds the line of each site's mark.
+fn add_marks(lines: &mut Vec<String>, reference: &ReferenceDesk) -> Result<(), Fail> {
+    for (site, mark) in &reference.marks {
+        if *mark == reference.mark(site.as_str()) {
             lines.push(format!(in *lines.allocator(); "settled|'{site}'|{mark}")?)?;
         }
     }
@@ -77,7 +60,7 @@ fn run_line(alloc: Global, run: &StoredRun) -> Result<String, Fail> {
 }
 
 /// Adds the lines of a library, with the statuses and counts of its histories.
-pub fn add_library(lines: &mut Vec<String>, library: &Library) -> Result<(), Fail> {
+fn add_library(lines: &mut Vec<String>, library: &Library) -> Result<(), Fail> {
     for ident in library.idents() {
         lines.push(ident_line(*lines.allocator(), ident)?)?;
     }
@@ -111,45 +94,27 @@ fn add_cards(
     for (pos, card) in cards.iter().enumerate() {
         let name = name_at(library.idents(), card.ident).ok_or("no name")?;
         let number = card.number;
-        let active = library.status(&live, CardRef { name, number });
-        add_rows(lines, (name, active), (deck, pos), card)?;
+        let active = library
+            .status(&live, CardRef { name, number })
+            .ok_or("no status")?;
+        add_card(lines, (name, active), (deck, pos), card)?;
     }
     Ok(())
 }
 
-/// Adds all rows of a card that has a status.
-fn add_rows(
-    lines: &mut Vec<String>,
-    (name, active): (Name, Option<bool>),
-    place: (u32, usize),
-    card: &Card,
-) -> Result<(), Fail> {
-    add_card(lines, name, place, card)?;
-    add_status(lines, (name, card.number), active.ok_or("no status")?)?;
-    add_entries(lines, name, card)?;
-    add_targets(lines, name, card)
-}
-
-/// Adds a card at a place: that of its deck, and its own.
+/// Adds all rows of a card with this name and status, at a place: that of its deck, and its own.
 fn add_card(
     lines: &mut Vec<String>,
-    name: Name,
+    (name, active): (Name, bool),
     (deck, pos): (u32, usize),
     card: &Card,
 ) -> Result<(), Fail> {
     let text = std::str::from_utf8(&card.text)?;
-    let (alloc, number) = (*lines.allocator(), card.number);
-    Ok(lines.push(format!(in alloc; "cards|'{name}'|{number}|{deck}|{pos}|'{text}'")?)?)
-}
-
-/// Adds the status of a card.
-fn add_status(
-    lines: &mut Vec<String>,
-    (name, number): (Name, u32),
-    active: bool,
-) -> Result<(), Fail> {
-    let (alloc, active) = (*lines.allocator(), u8::from(active));
-    Ok(lines.push(format!(in alloc; "states|'{name}'|{number}|{active}")?)?)
+    let (alloc, number, active) = (*lines.allocator(), card.number, u8::from(active));
+    lines.push(format!(in alloc; "cards|'{name}'|{number}|{deck}|{pos}|'{text}'")?)?;
+    lines.push(format!(in alloc; "states|'{name}'|{number}|{active}")?)?;
+    add_entries(lines, name, card)?;
+    add_targets(lines, name, card)
 }
 
 /// Adds the entries of a card.

@@ -1,6 +1,7 @@
 //! Replies as texts, from what they say.
 use crate::asks::Sent;
 use std::alloc::Global;
+use std::fmt::Display;
 use std::test::Fail;
 
 /// A compile line: its text, and the name and the number of its card.
@@ -24,12 +25,14 @@ pub fn refused(alloc: Global, sent: Sent<'_>, fault: &str) -> Result<String, Fai
     )?)
 }
 
-/// The reply to an accepted run, with the idents that it introduced and its compile lines.
-pub fn accepted(
+/// The reply to an accepted run, with the idents that it introduced, its compile file as JSON has it, and the number of
+/// its lines.
+pub fn accepted_with<T: Display>(
     alloc: Global,
     sent: Sent<'_>,
-    idents: &[&str],
-    lines: &[Line<'_>],
+    idents: &[T],
+    compile: &str,
+    lines: usize,
 ) -> Result<String, Fail> {
     let Sent {
         site,
@@ -37,17 +40,26 @@ pub fn accepted(
         mode,
         ..
     } = sent;
-    let compile = compile_lines(alloc, lines, "\\n")?;
     let idents = in_quotes(alloc, idents)?;
-    let lines = lines.len();
     Ok(format!(in alloc;
         "{{\"compile\":\"{compile}\",\"idents\":[{idents}],\"lines\":{lines},\"mode\":\"{mode}\",\
          \"run\":{number},\"site\":\"{site}\",\"state\":\"accepted\"}}"
     )?)
 }
 
+/// The reply to an accepted run, with the idents that it introduced and its compile lines.
+pub fn accepted(
+    alloc: Global,
+    sent: Sent<'_>,
+    idents: &[&str],
+    lines: &[Line<'_>],
+) -> Result<String, Fail> {
+    let compile = compile_lines(alloc, lines, "\\n")?;
+    accepted_with(alloc, sent, idents, &compile, lines.len())
+}
+
 /// Names in quotes, with commas between them.
-fn in_quotes(alloc: Global, names: &[&str]) -> Result<String, Fail> {
+fn in_quotes<T: Display>(alloc: Global, names: &[T]) -> Result<String, Fail> {
     let mut text = String::new(alloc);
     let mut comma = "";
     for name in names {

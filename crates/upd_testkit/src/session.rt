@@ -1,7 +1,7 @@
 //! A desk that is asked in text, beside the reference desk, which has to answer the same.
 use crate::applying::{card_ref, name};
-use crate::asks::{Ask, Sent, shown};
-use crate::check::{same, same_text};
+use crate::asks::{Ask, Sent, lyon, shown};
+use crate::check::same_text;
 use crate::reference_desk::ReferenceDesk;
 use crate::replies::{Line, accepted, compile_lines, refused};
 use std::alloc::Global;
@@ -34,24 +34,11 @@ impl<S: RowStore> Session<S> {
         }
     }
 
-    /// The store is handed to another desk.
-    pub fn reopened(self) -> Session<S> {
-        Session {
-            desk: Desk::open(self.desk.close()),
-            reference: self.reference,
-            alloc: self.alloc,
-        }
-    }
-
-    /// The answer of both, which have looked at the same number of cards if it is a reply.
+    /// The answer of both.
     pub fn ask(&mut self, ask: Ask<'_>) -> Result<String, Fail> {
         let answer = self.ask_desk(ask)?;
-        self.reference.work = 0;
         let wanted = self.reference.answer(ask)?;
         same_text(ask, answer.as_str(), wanted.as_str())?;
-        if answer.starts_with("{") {
-            same(ask, self.desk.work(), self.reference.work)?;
-        }
         Ok(answer)
     }
 
@@ -61,12 +48,6 @@ impl<S: RowStore> Session<S> {
             self.ask(*ask)?;
         }
         Ok(())
-    }
-
-    /// A run arrives at both: whether it was new and accepted.
-    pub fn arrive(&mut self, sent: Sent<'_>) -> Result<bool, Fail> {
-        self.ask(Ask::Run(sent))?;
-        Ok(self.reference.work > 0)
     }
 
     /// The answer of the desk only, or the fault in its place.
@@ -79,10 +60,11 @@ impl<S: RowStore> Session<S> {
     pub fn answer(&mut self, ask: Ask<'_>) -> Result<Result<Vec<u8>, Fault>, Fail> {
         match ask {
             Ask::Run(sent) => Ok(self.reply(sent)),
+            Ask::Lyon(number, mode, text) => Ok(self.reply(lyon(number, mode, text))),
             Ask::Settle(site, number) => self.mark(site, number),
             Ask::Compile => Ok(self.compile_file()),
-            Ask::Deck(deck) => self.deck(deck),
-            Ask::Card(card) => self.card(card),
+            Ask::Deck(deck) => Ok(self.desk.deck_list(self.alloc, &name(deck)?)),
+            Ask::Card(card) => Ok(self.desk.card_list(self.alloc, card_ref(card)?)),
             Ask::Idents => Ok(self.desk.ident_list(self.alloc)),
             Ask::Yanks => Ok(self.desk.yank_list(self.alloc)),
         }
@@ -91,14 +73,6 @@ impl<S: RowStore> Session<S> {
     fn compile_file(&mut self) -> Result<Vec<u8>, Fault> {
         let file = self.desk.full_compile(self.alloc);
         file.map(|file| file.bytes)
-    }
-
-    fn deck(&mut self, deck: &str) -> Result<Result<Vec<u8>, Fault>, Fail> {
-        Ok(self.desk.deck_list(self.alloc, &name(deck)?))
-    }
-
-    fn card(&mut self, card: &str) -> Result<Result<Vec<u8>, Fault>, Fail> {
-        Ok(self.desk.card_list(self.alloc, card_ref(card)?))
     }
 
     fn reply(&mut self, sent: Sent<'_>) -> Result<Vec<u8>, Fault> {
@@ -111,7 +85,7 @@ impl<S: RowStore> Session<S> {
 
     fn mark(&mut self, site: &str, number: u64) -> Result<Result<Vec<u8>, Fault>, Fail> {
         match self.desk.settle_site(self.alloc, site, number) {
-            Ok(mark) => Ok(Ok(digits(self.alloc, mark)?)),
+            Ok(mark) => Ok(Ok(format!(in self.alloc; "{mark}")?.into_bytes())),
             Err(fault) => Ok(Err(fault)),
         }
     }
@@ -144,9 +118,4 @@ impl<S: RowStore> Session<S> {
         let wanted = compile_lines(self.alloc, lines, "\n")?;
         self.says(Ask::Compile, wanted.as_str())
     }
-}
-
-fn digits(alloc: Global, number: u64) -> Result<Vec<u8>, Fail> {
-    let text = format!(in alloc; "{number}")?;
-    Ok(Vec::from_slice(alloc, text.as_bytes())?)
 }

@@ -10,7 +10,8 @@ use upd_compile::{
 };
 use upd_core::{Library, Serial};
 use upd_deck::read_run;
-use upd_testkit::applying::{card_ref, name};
+use upd_testkit::applying::{applied, card_ref, name};
+use upd_testkit::asks::shown;
 use upd_testkit::check::same_text;
 use upd_text::Fault;
 
@@ -20,6 +21,8 @@ pub const DECK_A: &str = "*DECK A\nONE\nTWO\nTHREE\n";
 /// What is asked of a library.
 #[derive(Clone, Copy)]
 pub enum Ask<'a> {
+    /// From here on the library is another, which begins empty; the answer is empty.
+    Empty,
     /// A run: "accepted", or its fault.
     Run(&'a str),
     /// The same as `Run` for a run that is made of parts.
@@ -47,142 +50,88 @@ pub type Asked = &'static [(Ask<'static>, &'static str)];
 
 /// Asks all this of a library that begins empty.
 pub fn check(alloc: Global, asked: &[(Ask<'_>, &str)]) -> Result<(), Fail> {
-    AskedLibrary::new(Library::new(alloc)).check(asked)
+    check_on(&mut Library::new(alloc), asked)
 }
 
-/// A library to which runs come one after the other.
-#[derive(Drop)]
-pub struct AskedLibrary {
-    library: Library,
-}
-
-impl AskedLibrary {
-    /// Asks this library.
-    pub fn new(library: Library) -> Self {
-        AskedLibrary { library }
+/// Asks one after the other, and compares each answer with the expected one. An error has the index of the answer.
+pub fn check_on(library: &mut Library, asked: &[(Ask<'_>, &str)]) -> Result<(), Fail> {
+    for (index, (ask, wanted)) in asked.iter().enumerate() {
+        let answer = answer(library, *ask)?;
+        same_text(index, answer.as_str(), wanted)?;
     }
+    Ok(())
+}
 
-    /// Asks one after the other, and compares each answer with the expected one. An error has the number of the answer.
-    pub fn check(&mut self, asked: &[(Ask<'_>, &str)]) -> Result<(), Fail> {
-        let mut number: u32 = 0;
-        for (ask, wanted) in asked {
-            number = number.saturating_add(1);
-            let answer = self.answer(*ask)?;
-            same_text(number, answer.as_str(), wanted)?;
+fn answer(library: &mut Library, ask: Ask<'_>) -> Result<String, Fail> {
+    let alloc = library.allocator();
+    match ask {
+        Ask::Empty => {
+            *library = Library::new(alloc);
+            Ok(String::new(alloc))
         }
-        Ok(())
-    }
-
-    fn answer(&mut self, ask: Ask<'_>) -> Result<String, Fail> {
-        match ask {
-            Ask::Run(run) => self.run(run),
-            Ask::Long(parts) => self.long(parts),
-            Ask::Applied(run) => self.applied(run),
-            Ask::Changed(run) => self.changed(run),
-            Ask::Compiled(mode, run) => self.compiled(mode, run),
-            Ask::Lines(parts) => self.lines(parts),
-            Ask::Active => self.compiled(Mode::Full, ""),
-            Ask::Deck(name) => self.deck(name),
-            Ask::Card(card) => self.card(card),
-            Ask::Idents => self.idents(),
-            Ask::Yanks => self.yanks(),
-            Ask::PurgeBack(age) => self.purge_back(age),
+        Ask::Run(run) => accepted(library, run),
+        Ask::Long(parts) => long(library, parts),
+        Ask::Applied(run) => applied_text(alloc, &applied(library, run)?),
+        Ask::Changed(run) => changed_by(library, run),
+        Ask::Compiled(mode, run) => compiled_by(library, mode, run),
+        Ask::Lines(parts) => lines(library, parts),
+        Ask::Active => compiled(library, library, Mode::Full, &[]),
+        Ask::Deck(deck) => shown(alloc, list_deck(alloc, library, &name(deck)?)),
+        Ask::Card(card) => shown(alloc, list_card(alloc, library, card_ref(card)?)),
+        Ask::Idents => shown(alloc, list_idents(alloc, library)),
+        Ask::Yanks => shown(alloc, list_yanks(alloc, library)),
+        Ask::PurgeBack(serial) => {
+            purge_back(library, serial);
+            Ok(String::new(alloc))
         }
     }
+}
 
-    fn alloc(&self) -> Global {
-        self.library.allocator()
-    }
-
-    fn apply(&mut self, text: &str) -> Result<Applied, Fault> {
-        let alloc = self.alloc();
-        let run = read_run(alloc, text.as_bytes())?;
-        apply(alloc, &mut self.library, &run)
-    }
-
-    fn run(&mut self, text: &str) -> Result<String, Fail> {
-        match self.apply(text) {
-            Ok(_) => Ok(String::from_str(self.alloc(), "accepted")?),
-            Err(fault) => fault_text(self.alloc(), fault),
-        }
-    }
-
-    fn long(&mut self, parts: &[Part<'_>]) -> Result<String, Fail> {
-        let text = text_of(self.alloc(), parts)?;
-        self.run(text.as_str())
-    }
-
-    fn applied(&mut self, text: &str) -> Result<String, Fail> {
-        let applied = self.apply(text)?;
-        applied_text(self.alloc(), &applied)
-    }
-
-    fn changed(&mut self, text: &str) -> Result<String, Fail> {
-        let before = self.library.copy()?;
-        self.run(text)?;
-        changes(&before, &self.library)
-    }
-
-    fn compiled(&mut self, mode: Mode, text: &str) -> Result<String, Fail> {
-        let before = self.library.copy()?;
-        let applied = self.apply(text)?;
-        compiled(&before, &self.library, mode, &applied.compile)
-    }
-
-    fn lines(&mut self, parts: &[Part<'_>]) -> Result<String, Fail> {
-        self.long(parts)?;
-        line_count(&self.library, Mode::Full)
-    }
-
-    fn deck(&self, deck: &str) -> Result<String, Fail> {
-        listing(
-            self.alloc(),
-            list_deck(self.alloc(), &self.library, &name(deck)?),
-        )
-    }
-
-    fn card(&self, card: &str) -> Result<String, Fail> {
-        listing(
-            self.alloc(),
-            list_card(self.alloc(), &self.library, card_ref(card)?),
-        )
-    }
-
-    fn idents(&self) -> Result<String, Fail> {
-        listing(self.alloc(), list_idents(self.alloc(), &self.library))
-    }
-
-    fn yanks(&self) -> Result<String, Fail> {
-        listing(self.alloc(), list_yanks(self.alloc(), &self.library))
-    }
-
-    fn purge_back(&mut self, age: Serial) -> Result<String, Fail> {
-        purge_back(&mut self.library, age);
-        Ok(String::new(self.alloc()))
+/// Whether a run is accepted, or why not.
+fn accepted(library: &mut Library, text: &str) -> Result<String, Fail> {
+    let alloc = library.allocator();
+    match try_run(library, text) {
+        Ok(_) => Ok(String::from_str(alloc, "accepted")?),
+        Err(fault) => shown(alloc, Err(fault)),
     }
 }
 
-fn fault_text(alloc: Global, fault: Fault) -> Result<String, Fail> {
-    Ok(format!(in alloc; "{fault}")?)
+fn try_run(library: &mut Library, text: &str) -> Result<Applied, Fault> {
+    let alloc = library.allocator();
+    let run = read_run(alloc, text.as_bytes())?;
+    apply(alloc, library, &run)
 }
 
-fn ages(alloc: Global, ages: &[Serial]) -> Result<String, Fail> {
-    Ok(format!(in alloc; "{ages:?}")?)
+fn long(library: &mut Library, parts: &[Part<'_>]) -> Result<String, Fail> {
+    let text = text_of(library.allocator(), parts)?;
+    accepted(library, text.as_str())
 }
 
 fn applied_text(alloc: Global, applied: &Applied) -> Result<String, Fail> {
-    let mut text = ages(alloc, &applied.idents)?;
-    write!(text, " {:?}", applied.compile.as_slice())?;
+    let (idents, compile) = (applied.idents.as_slice(), applied.compile.as_slice());
+    let mut text = format!(in alloc; "{idents:?} {compile:?}")?;
     for card in &applied.touched {
         write!(text, " {card}")?;
     }
     Ok(text)
 }
 
+fn changed_by(library: &mut Library, run: &str) -> Result<String, Fail> {
+    let before = library.copy()?;
+    applied(library, run)?;
+    changes(&before, library)
+}
+
 fn changes(before: &Library, after: &Library) -> Result<String, Fail> {
     let alloc = after.allocator();
     let changed = changed(alloc, before, after)?;
-    ages(alloc, &changed)
+    Ok(format!(in alloc; "{:?}", changed.as_slice())?)
+}
+
+fn compiled_by(library: &mut Library, mode: Mode, run: &str) -> Result<String, Fail> {
+    let before = library.copy()?;
+    let applied = applied(library, run)?;
+    compiled(&before, library, mode, &applied.compile)
 }
 
 fn compiled(
@@ -194,22 +143,16 @@ fn compiled(
     let alloc = after.allocator();
     match compile_file(alloc, after, before, mode, named) {
         Ok(file) => cards(alloc, &file),
-        Err(fault) => fault_text(alloc, fault),
+        Err(fault) => shown(alloc, Err(fault)),
     }
 }
 
-fn line_count(library: &Library, mode: Mode) -> Result<String, Fail> {
+fn lines(library: &mut Library, parts: &[Part<'_>]) -> Result<String, Fail> {
+    long(library, parts)?;
     let alloc = library.allocator();
-    match compile_file(alloc, library, library, mode, &[]) {
+    match compile_file(alloc, library, library, Mode::Full, &[]) {
         Ok(file) => Ok(format!(in alloc; "{}", file.lines)?),
-        Err(fault) => fault_text(alloc, fault),
-    }
-}
-
-fn listing(alloc: Global, listing: Result<Vec<u8>, Fault>) -> Result<String, Fail> {
-    match listing {
-        Ok(bytes) => Ok(String::from_utf8(bytes)?),
-        Err(fault) => fault_text(alloc, fault),
+        Err(fault) => shown(alloc, Err(fault)),
     }
 }
 

@@ -8,7 +8,6 @@ use upd_core::{Entry, Ident, Kind, Serial, States, Target};
 use upd_examine::findings;
 use upd_records::{CardRow, EntryRow, LibraryRows, MarkRow, RunRow, TargetRow};
 use upd_testkit::applying::{card_ref, name};
-use upd_testkit::check::same_text;
 
 /// A name, its serial and kind, and whether the ident is held.
 pub type IdentText = (&'static str, Serial, Kind, bool);
@@ -16,19 +15,23 @@ pub type IdentText = (&'static str, Serial, Kind, bool);
 /// A card, its deck, its place there, and its text.
 pub type CardText = (&'static str, Serial, u32, &'static [u8]);
 
-/// The rows of all tables, as constants.
+/// A card, the ordinal of the entry, and the ident that switched the card on.
+pub type EntryText = (&'static str, u32, Serial);
+
+/// A number, the mode, whether the run was accepted, and its reply.
+pub type RunText = (u64, u32, bool, &'static [u8]);
+
+/// All rows of a table, as constants.
 #[derive(Clone, Copy)]
-pub struct Rows {
-    pub idents: &'static [IdentText],
-    pub cards: &'static [CardText],
-    /// A card, the ordinal of the entry, and the ident that switched the card on.
-    pub entries: &'static [(&'static str, u32, Serial)],
-    pub targets: &'static [(&'static str, Target)],
-    pub states: &'static [(&'static str, bool)],
-    pub counts: &'static [(Target, u32)],
-    /// A number, the mode, whether the run was accepted, and its reply.
-    pub runs: &'static [(u64, u32, bool, &'static str)],
-    pub marks: &'static [(&'static str, u64)],
+pub enum Rows {
+    Idents(&'static [IdentText]),
+    Cards(&'static [CardText]),
+    Entries(&'static [EntryText]),
+    Targets(&'static [(&'static str, Target)]),
+    States(&'static [(&'static str, bool)]),
+    Counts(&'static [(Target, u32)]),
+    Runs(&'static [RunText]),
+    Marks(&'static [(&'static str, u64)]),
 }
 
 pub const DECK_A: IdentText = ("A", 1, Kind::Deck, true);
@@ -47,23 +50,27 @@ pub const A_2: CardText = ("A.2", 1, 1, b"ONE");
 
 pub const B_1: CardText = ("B.1", 2, 0, b"*DECK B");
 
-pub const ACCEPTED: &str =
-    "{\"compile\":\"\",\"idents\":[\"A\"],\"lines\":0,\"mode\":\"quick\",\"run\":6,\"site\":\"SITEA\",\"state\":\"accepted\"}";
+pub const RUN_6: RunText = (
+    6,
+    1,
+    true,
+    b"{\"compile\":\"\",\"idents\":[\"A\"],\"lines\":0,\"mode\":\"quick\",\"run\":6,\"site\":\"SITEA\",\"state\":\"accepted\"}",
+);
 
-pub const REFUSED: &str =
-    "{\"at\":1,\"fault\":13,\"mode\":\"quick\",\"name\":\"CardUnknown\",\"run\":7,\"site\":\"SITEA\",\"state\":\"refused\"}";
+pub const REFUSED: &[u8] =
+    b"{\"at\":1,\"fault\":13,\"mode\":\"quick\",\"name\":\"CardUnknown\",\"run\":7,\"site\":\"SITEA\",\"state\":\"refused\"}";
 
 /// The rows of the library.
-pub const SOUND: Rows = Rows {
-    idents: &[DECK_A, DECK_B, DECK_C, SET_S],
-    cards: &[S_1, A_1, A_2, B_1],
-    entries: &[("A.1", 0, 1), ("A.2", 0, 1), ("B.1", 0, 2), ("S.1", 0, 4)],
-    targets: &[("S.1", Target::Deck(2))],
-    states: &[("A.1", true), ("A.2", true), ("B.1", false), ("S.1", true)],
-    counts: &[(Target::Deck(2), 1)],
-    runs: &[(6, 1, true, ACCEPTED), (7, 1, false, REFUSED)],
-    marks: &[("SITEA", 5)],
-};
+const SOUND: [Rows; 8] = [
+    Rows::Idents(&[DECK_A, DECK_B, DECK_C, SET_S]),
+    Rows::Cards(&[S_1, A_1, A_2, B_1]),
+    Rows::Entries(&[("A.1", 0, 1), ("A.2", 0, 1), ("B.1", 0, 2), ("S.1", 0, 4)]),
+    Rows::Targets(&[("S.1", Target::Deck(2))]),
+    Rows::States(&[("A.1", true), ("A.2", true), ("B.1", false), ("S.1", true)]),
+    Rows::Counts(&[(Target::Deck(2), 1)]),
+    Rows::Runs(&[RUN_6, (7, 1, false, REFUSED)]),
+    Rows::Marks(&[("SITEA", 5)]),
+];
 
 /// All tables.
 #[derive(Drop)]
@@ -91,7 +98,8 @@ fn no_rows(alloc: Global) -> Tables {
     }
 }
 
-fn add_idents(idents: &mut Vec<Ident>, rows: &[IdentText]) -> Result<(), Fail> {
+fn put_idents(idents: &mut Vec<Ident>, rows: &[IdentText]) -> Result<(), Fail> {
+    idents.clear();
     for (text, age, kind, held) in rows {
         idents.push(Ident {
             name: name(text)?,
@@ -104,7 +112,8 @@ fn add_idents(idents: &mut Vec<Ident>, rows: &[IdentText]) -> Result<(), Fail> {
     Ok(())
 }
 
-fn add_cards(alloc: Global, cards: &mut Vec<CardRow>, rows: &[CardText]) -> Result<(), Fail> {
+fn put_cards(alloc: Global, cards: &mut Vec<CardRow>, rows: &[CardText]) -> Result<(), Fail> {
+    cards.clear();
     for (card, deck, pos, text) in rows {
         cards.push(CardRow {
             card: card_ref(card)?,
@@ -116,7 +125,8 @@ fn add_cards(alloc: Global, cards: &mut Vec<CardRow>, rows: &[CardText]) -> Resu
     Ok(())
 }
 
-fn add_entries(entries: &mut Vec<EntryRow>, rows: &[(&str, u32, Serial)]) -> Result<(), Fail> {
+fn put_entries(entries: &mut Vec<EntryRow>, rows: &[EntryText]) -> Result<(), Fail> {
+    entries.clear();
     for (card, ord, ident) in rows {
         entries.push(EntryRow {
             card: card_ref(card)?,
@@ -130,7 +140,8 @@ fn add_entries(entries: &mut Vec<EntryRow>, rows: &[(&str, u32, Serial)]) -> Res
     Ok(())
 }
 
-fn add_targets(targets: &mut Vec<TargetRow>, rows: &[(&str, Target)]) -> Result<(), Fail> {
+fn put_targets(targets: &mut Vec<TargetRow>, rows: &[(&str, Target)]) -> Result<(), Fail> {
+    targets.clear();
     for (card, target) in rows {
         targets.push(TargetRow {
             card: card_ref(card)?,
@@ -141,46 +152,36 @@ fn add_targets(targets: &mut Vec<TargetRow>, rows: &[(&str, Target)]) -> Result<
     Ok(())
 }
 
-fn add_states(states: &mut States, rows: &[(&str, bool)]) -> Result<(), Fail> {
+fn put_states(states: &mut States, rows: &[(&str, bool)]) -> Result<(), Fail> {
+    states.states.clear();
     for (card, active) in rows {
         states.states.push((card_ref(card)?, *active))?;
     }
     Ok(())
 }
 
-fn add_counts(states: &mut States, rows: &[(Target, u32)]) -> Result<(), Fail> {
-    for count in rows {
-        states.counts.push(*count)?;
+fn put_counts(states: &mut States, rows: &[(Target, u32)]) -> Result<(), Fail> {
+    states.counts.clear();
+    Ok(states.counts.extend_from_slice(rows)?)
+}
+
+pub fn put_runs(alloc: Global, runs: &mut Vec<RunRow>, rows: &[RunText]) -> Result<(), Fail> {
+    runs.clear();
+    for (number, mode, accepted, reply) in rows {
+        runs.push(RunRow {
+            site: String::from_str(alloc, "SITEA")?,
+            number: *number,
+            mode: *mode,
+            bytes: Vec::from_slice(alloc, b"*DECK A\n")?,
+            accepted: *accepted,
+            reply: Vec::from_slice(alloc, reply)?,
+        })?;
     }
     Ok(())
 }
 
-fn run(
-    alloc: Global,
-    (number, mode, accepted, reply): (u64, u32, bool, &str),
-) -> Result<RunRow, Fail> {
-    Ok(RunRow {
-        site: String::from_str(alloc, "SITEA")?,
-        number,
-        mode,
-        bytes: Vec::from_slice(alloc, b"*DECK A\n")?,
-        accepted,
-        reply: Vec::from_slice(alloc, reply.as_bytes())?,
-    })
-}
-
-fn add_runs(
-    alloc: Global,
-    runs: &mut Vec<RunRow>,
-    rows: &[(u64, u32, bool, &str)],
-) -> Result<(), Fail> {
-    for row in rows {
-        runs.push(run(alloc, *row)?)?;
-    }
-    Ok(())
-}
-
-fn add_marks(alloc: Global, marks: &mut Vec<MarkRow>, rows: &[(&str, u64)]) -> Result<(), Fail> {
+fn put_marks(alloc: Global, marks: &mut Vec<MarkRow>, rows: &[(&str, u64)]) -> Result<(), Fail> {
+    marks.clear();
     for (site, mark) in rows {
         marks.push(MarkRow {
             site: String::from_str(alloc, site)?,
@@ -190,19 +191,25 @@ fn add_marks(alloc: Global, marks: &mut Vec<MarkRow>, rows: &[(&str, u64)]) -> R
     Ok(())
 }
 
-fn add_library(alloc: Global, library: &mut LibraryRows, rows: &Rows) -> Result<(), Fail> {
-    add_idents(&mut library.idents, rows.idents)?;
-    add_cards(alloc, &mut library.cards, rows.cards)?;
-    add_entries(&mut library.entries, rows.entries)?;
-    add_targets(&mut library.targets, rows.targets)
+/// The rows of a table are these only.
+fn put(alloc: Global, tables: &mut Tables, rows: Rows) -> Result<(), Fail> {
+    match rows {
+        Rows::Idents(rows) => put_idents(&mut tables.library.idents, rows),
+        Rows::Cards(rows) => put_cards(alloc, &mut tables.library.cards, rows),
+        Rows::Entries(rows) => put_entries(&mut tables.library.entries, rows),
+        Rows::Targets(rows) => put_targets(&mut tables.library.targets, rows),
+        Rows::States(rows) => put_states(&mut tables.states, rows),
+        Rows::Counts(rows) => put_counts(&mut tables.states, rows),
+        Rows::Runs(rows) => put_runs(alloc, &mut tables.runs, rows),
+        Rows::Marks(rows) => put_marks(alloc, &mut tables.marks, rows),
+    }
 }
 
-fn add_rows(alloc: Global, tables: &mut Tables, rows: &Rows) -> Result<(), Fail> {
-    add_library(alloc, &mut tables.library, rows)?;
-    add_states(&mut tables.states, rows.states)?;
-    add_counts(&mut tables.states, rows.counts)?;
-    add_runs(alloc, &mut tables.runs, rows.runs)?;
-    add_marks(alloc, &mut tables.marks, rows.marks)
+fn put_all(alloc: Global, tables: &mut Tables, all: &[Rows]) -> Result<(), Fail> {
+    for rows in all {
+        put(alloc, tables, *rows)?;
+    }
+    Ok(())
 }
 
 fn found_in(alloc: Global, tables: &Tables) -> Result<String, Fail> {
@@ -211,22 +218,10 @@ fn found_in(alloc: Global, tables: &Tables) -> Result<String, Fail> {
     Ok(String::from_utf8(found)?)
 }
 
-/// The findings in rows.
-fn found(alloc: Global, rows: &Rows) -> Result<String, Fail> {
+/// The findings in the library where some of its tables have these rows.
+pub fn found(alloc: Global, changed: &[Rows]) -> Result<String, Fail> {
     let mut tables = no_rows(alloc);
-    add_rows(alloc, &mut tables, rows)?;
+    put_all(alloc, &mut tables, &SOUND)?;
+    put_all(alloc, &mut tables, changed)?;
     found_in(alloc, &tables)
-}
-
-/// Finds exactly these lines in rows.
-pub fn finds(alloc: Global, rows: &Rows, wanted: &str) -> Result<(), Fail> {
-    let found = found(alloc, rows)?;
-    same_text("the findings", found.as_str(), wanted)
-}
-
-/// Finds these lines first.
-pub fn finds_first(alloc: Global, rows: &Rows, wanted: &str) -> Result<(), Fail> {
-    let found = found(alloc, rows)?;
-    let first = found.get(..wanted.len()).unwrap_or("");
-    same_text("the first findings", first, wanted)
 }

@@ -8,8 +8,6 @@
 #[cfg(test)]
 mod asked_library;
 #[cfg(test)]
-mod cached_statuses;
-#[cfg(test)]
 mod common_deck_runs;
 #[cfg(test)]
 mod correction_runs;
@@ -19,8 +17,6 @@ mod edited_texts;
 mod examined_rows;
 #[cfg(test)]
 mod examined_tables;
-#[cfg(test)]
-mod examined_texts;
 #[cfg(test)]
 mod library_limits;
 #[cfg(test)]

@@ -1,5 +1,5 @@
 //! Libraries at their limits; `bench/apply.py` times these tests.
-use crate::asked_library::{Ask, Asked, AskedLibrary, check};
+use crate::asked_library::{Ask, Asked, check, check_on};
 use crate::long_runs::Part;
 use std::alloc::Global;
 use std::test::Fail;
@@ -12,108 +12,88 @@ const ALL_IDENTS: Asked = &[
     (Ask::Long(&[Part::Idents(4000, 4095)]), "accepted"),
 ];
 
-/// All idents, and one more after one is purged.
-fn hold_idents(library: &mut AskedLibrary) -> Result<(), Fail> {
+/// Asks all this of a library with all idents.
+fn check_with_idents(library: &mut Library, asked: Asked) -> Result<(), Fail> {
+    check_on(library, ALL_IDENTS)?;
+    check_on(library, asked)
+}
+
+/// One more ident is held after one is purged.
+#[test]
+fn holds_4096_idents(rt: HostRuntime) -> Result<(), Fail> {
     const ASKED: Asked = &[
         (Ask::Run("*IDENT LAST\n"), "Full (19) at 1"),
         (Ask::Run("*PURGE N0\n*IDENT LAST\n"), "accepted"),
     ];
-    library.check(ALL_IDENTS)?;
-    library.check(ASKED)
-}
-
-#[test]
-fn holds_4096_idents(rt: HostRuntime) -> Result<(), Fail> {
-    hold_idents(&mut AskedLibrary::new(Library::new(rt.alloc())))
+    check_with_idents(&mut Library::new(rt.alloc()), ASKED)
 }
 
 /// All idents 16 times, purged each time, and one more.
-fn introduce_idents(library: &mut AskedLibrary) -> Result<(), Fail> {
+fn introduce_idents(library: &mut Library) -> Result<(), Fail> {
     const PURGE: Asked = &[(Ask::Run("*PURGE N0,*\n"), "accepted")];
     const LAST: Asked = &[(Ask::Run("*IDENT LAST\n"), "Full (19) at 1")];
     for _ in 0..16 {
-        library.check(ALL_IDENTS)?;
-        library.check(PURGE)?;
+        check_with_idents(library, PURGE)?;
     }
-    library.check(LAST)
+    check_on(library, LAST)
 }
 
 #[test]
 fn introduces_65536_idents(rt: HostRuntime) -> Result<(), Fail> {
-    introduce_idents(&mut AskedLibrary::new(Library::new(rt.alloc())))
+    introduce_idents(&mut Library::new(rt.alloc()))
 }
 
-fn take_2000_cards(library: &mut AskedLibrary, alloc: Global, n: u32) -> Result<(), Fail> {
-    let deck = format!(in alloc; "*DECK DECK{n}")?;
-    let parts = [
-        Part::Line(deck.as_str()),
-        Part::Times(1999, "      CONTINUE"),
-    ];
-    library.check(&[(Ask::Long(&parts), "accepted")])
+fn take_2000_cards(library: &mut Library, alloc: Global, n: u32) -> Result<(), Fail> {
+    let deck = format!(in alloc; "*DECK DECK{n}\n1999 x       CONTINUE")?;
+    check_on(
+        library,
+        &[(Ask::Long(&[Part::Text(deck.as_str())]), "accepted")],
+    )
 }
 
-/// 50,000 cards in the decks DECK0 to DECK24.
-fn take_50000_cards(library: &mut AskedLibrary, alloc: Global) -> Result<(), Fail> {
+/// Asks all this of an empty library after 50,000 cards in the decks DECK0 to DECK24.
+fn check_full(library: &mut Library, alloc: Global, asked: Asked) -> Result<(), Fail> {
     for n in 0..25 {
         take_2000_cards(library, alloc, n)?;
     }
-    Ok(())
-}
-
-/// Asks all this of a library of 50,000 cards.
-fn check_full(alloc: Global, asked: Asked) -> Result<(), Fail> {
-    let mut library = AskedLibrary::new(Library::new(alloc));
-    take_50000_cards(&mut library, alloc)?;
-    library.check(asked)
+    check_on(library, asked)
 }
 
 #[test]
 fn holds_50000_cards(rt: HostRuntime) -> Result<(), Fail> {
     const ASKED: Asked = &[(Ask::Run("*DECK Z\n"), "Full (19) at 1")];
-    check_full(rt.alloc(), ASKED)
+    check_full(&mut Library::new(rt.alloc()), rt.alloc(), ASKED)
 }
 
 #[test]
 fn takes_1999_corrections_on_50000_cards(rt: HostRuntime) -> Result<(), Fail> {
-    const PARTS: &[Part<'_>] = &[Part::Line("*IDENT X"), Part::Deletions(1999)];
+    const PARTS: &[Part<'_>] = &[Part::Text("*IDENT X"), Part::Deletions(1999)];
     const ASKED: Asked = &[(Ask::Long(PARTS), "accepted")];
-    check_full(rt.alloc(), ASKED)
+    check_full(&mut Library::new(rt.alloc()), rt.alloc(), ASKED)
 }
 
 #[test]
 fn holds_200000_entries(rt: HostRuntime) -> Result<(), Fail> {
-    const DECK: &[Part<'_>] = &[Part::Line("*DECK A"), Part::Times(1999, "      CONTINUE")];
-    const OVER: &[Part<'_>] = &[
-        Part::Line("*IDENT X"),
-        Part::Times(99, "*DELETE A.2,A.2000"),
-        Part::Line("*DELETE A.2,A.101"),
-    ];
-    const FULL: &[Part<'_>] = &[
-        Part::Line("*IDENT X"),
-        Part::Times(99, "*DELETE A.2,A.2000"),
-        Part::Line("*DELETE A.2,A.100"),
-    ];
+    const DECK: Part<'_> = Part::Text("*DECK A\n1999 x       CONTINUE");
+    const OVER: Part<'_> = Part::Text("*IDENT X\n99 x *DELETE A.2,A.2000\n*DELETE A.2,A.101");
+    const FULL: Part<'_> = Part::Text("*IDENT X\n99 x *DELETE A.2,A.2000\n*DELETE A.2,A.100");
     const ASKED: Asked = &[
-        (Ask::Long(DECK), "accepted"),
-        (Ask::Long(OVER), "Full (19) at 101"),
-        (Ask::Long(FULL), "accepted"),
+        (Ask::Long(&[DECK]), "accepted"),
+        (Ask::Long(&[OVER]), "Full (19) at 101"),
+        (Ask::Long(&[FULL]), "accepted"),
     ];
     check(rt.alloc(), ASKED)
 }
 
 #[test]
 fn holds_100000_targets(rt: HostRuntime) -> Result<(), Fail> {
-    const OVER: &[Part<'_>] = &[
-        Part::Line("*IDENT Z"),
-        Part::Times(25, "*YANK N1.N4000"),
-        Part::Line("*YANK N1"),
-    ];
-    const FULL: &[Part<'_>] = &[Part::Line("*IDENT Z"), Part::Times(25, "*YANK N1.N4000")];
+    const OVER: Part<'_> = Part::Text("*IDENT Z\n25 x *YANK N1.N4000\n*YANK N1");
+    const FULL: Part<'_> = Part::Text("*IDENT Z\n25 x *YANK N1.N4000");
     const ASKED: Asked = &[
         (Ask::Long(&[Part::Idents(1, 2000)]), "accepted"),
         (Ask::Long(&[Part::Idents(2001, 4000)]), "accepted"),
-        (Ask::Long(OVER), "Full (19) at 27"),
-        (Ask::Long(FULL), "accepted"),
+        (Ask::Long(&[OVER]), "Full (19) at 27"),
+        (Ask::Long(&[FULL]), "accepted"),
     ];
     check(rt.alloc(), ASKED)
 }

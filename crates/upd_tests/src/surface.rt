@@ -8,6 +8,7 @@ use upd_core::{Actives, Change, Counted, Entry, Fault, FaultKind, Library, Place
 use upd_deck::{Item, Line, Run, read_run};
 use upd_testkit::applying::{after, applied, card_ref, name};
 use upd_testkit::check::{holds, same};
+use upd_yank::Cache;
 
 const DECK: &str = "*DECK A\nONE\n";
 
@@ -84,6 +85,37 @@ fn are_answers(alloc: Global, library: &Library) -> Result<(), Fail> {
 #[test]
 fn a_counted_library_answers(rt: HostRuntime) -> Result<(), Fail> {
     are_answers(rt.alloc(), &after(rt.alloc(), &[DECK, SET, YANK])?)
+}
+
+/// The run that yanks X is applied. Looked at are its yank card and the two cards that X covers.
+fn is_updated(cache: &mut Cache, library: &mut Library) -> Result<(), Fail> {
+    let run = applied(library, YANK)?;
+    let mut counted = Counted::new(library);
+    cache.settle(&mut counted, &run)?;
+    let found = (counted.reads(), cache.work(), cache.count(Target::Set(2)));
+    same("reads, work, yanks of X", found, (3, 3, 1))
+}
+
+/// The statuses of A.2, X.1, Y.1 and of no card.
+fn has_statuses(cache: &Cache) -> Result<(), Fail> {
+    const WANTED: &[(&str, Option<bool>)] = &[
+        ("A.2", Some(true)),
+        ("X.1", Some(false)),
+        ("Y.1", Some(true)),
+        ("A.3", None),
+    ];
+    for (card, wanted) in WANTED {
+        same(card, cache.active(card_ref(card)?), *wanted)?;
+    }
+    Ok(())
+}
+
+#[test]
+fn a_cache_of_statuses_is_updated(rt: HostRuntime) -> Result<(), Fail> {
+    let mut library = after(rt.alloc(), &[DECK, SET])?;
+    let mut cache = Cache::build(rt.alloc(), &library)?;
+    is_updated(&mut cache, &mut library)?;
+    has_statuses(&cache)
 }
 
 /// The place of a row change among the eleven of them.

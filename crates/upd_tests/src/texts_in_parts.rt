@@ -1,133 +1,121 @@
 //! Edited texts that several runs lead to.
 
-use crate::long_runs::{Part, text, text_of};
+use crate::edited_texts::refused;
+use crate::long_runs::{Part, after_long, text, text_of};
 use std::alloc::Global;
 use std::test::Fail;
 use upd_core::Library;
-use upd_correct::{CorrectError, Problem, correct_parts};
+use upd_correct::correct_parts;
 use upd_edit::active_text;
-use upd_testkit::applying::{after, applied, name};
-use upd_testkit::check::{holds, same, same_text};
+use upd_testkit::applying::{applied, name};
+use upd_testkit::check::{same, same_text};
 
 /// Deck A of 3,000 cards: its first, 1,999 of its own and 1,000 of X. And deck B.
-fn long(alloc: Global) -> Result<Library, Fail> {
-    let first = text_of(alloc, &[Part::Line("*DECK A"), Part::Times(1_999, "OLD")])?;
-    let second = text_of(
-        alloc,
+const LONG: &[&[Part<'_>]] = &[
+    &[Part::Text("*DECK A\n1999 x OLD")],
+    &[Part::Text("*IDENT X\n*INSERT A.2000\n1000 x OLD\n*DECK B\nB")],
+];
+
+/// Decks of the library, an edited text of them, and the runs that lead to it.
+const EDITS: &[(&[&str], &str, &[&str])] = &[
+    // An edit of 2,500 lines is two runs.
+    (
+        &["A"],
+        "*DECK A\n2500 x NEW\n499 x OLD",
         &[
-            Part::Line("*IDENT X\n*INSERT A.2000"),
-            Part::Times(1_000, "OLD"),
-            Part::Line("*DECK B\nB"),
+            "*IDENT Z1\n*INSERT A.1\n1997 x NEW",
+            "*IDENT Z2\n*INSERT Z1.1997\n503 x NEW\n*DELETE A.501,X.1000",
         ],
-    )?;
-    after(alloc, &[first.as_str(), second.as_str()])
+    ),
+    // One that fits is one run, and no edit is none.
+    (
+        &["A"],
+        "*DECK A\nNEW\n2999 x OLD",
+        &["*IDENT Z1\n*INSERT A.1\nNEW"],
+    ),
+    (&["A"], "*DECK A\n2999 x OLD", &[]),
+    // New decks come first.
+    (
+        &["B", "N"],
+        "*DECK B\nB\nC\n*COMDECK N\n2100 x NEW",
+        &[
+            "*IDENT Z1\n*COMDECK N\n1997 x NEW",
+            "*IDENT Z2\n*INSERT B.2\nC\n*INSERT N.1998\n103 x NEW",
+        ],
+    ),
+];
+
+/// A run has this text, and is applied.
+fn is_run(library: &mut Library, run: &[u8], wanted: &str) -> Result<(), Fail> {
+    let wanted = text_of(library.allocator(), &[Part::Text(wanted)])?;
+    same_text("a run", text(run)?, wanted.as_str())?;
+    applied(library, wanted.as_str())?;
+    Ok(())
 }
 
-/// These parts lead deck A to a text by runs of these parts.
-fn expect_runs(alloc: Global, edited: &[Part<'_>], runs: &[&[Part<'_>]]) -> Result<(), Fail> {
-    let mut library = long(alloc)?;
-    let edited = text_of(alloc, edited)?;
-    let Ok(found) = correct_parts(alloc, &library, b"Z", edited.as_bytes()) else {
-        return Err("the text is refused".into());
-    };
+fn are_runs(library: &mut Library, found: &[Vec<u8>], runs: &[&str]) -> Result<(), Fail> {
     same("the number of runs", found.len(), runs.len())?;
-    for (run, parts) in found.iter().zip(runs) {
-        same_text("a run", text(run)?, text_of(alloc, parts)?.as_str())?;
-        applied(&mut library, text(run)?)?;
+    for (run, wanted) in found.iter().zip(runs) {
+        is_run(library, run, wanted)?;
     }
-    let reached = active_text(alloc, &library, &name("A")?)?;
-    same_text("the text", text(&reached)?, edited.as_str())
+    Ok(())
 }
 
-/// A text for a set is refused with this problem of the set or of a run.
-fn expect_problem(alloc: Global, set: &[u8], edited: &str, problem: Problem) -> Result<(), Fail> {
-    match correct_parts(alloc, &long(alloc)?, set, edited.as_bytes()) {
-        Err(CorrectError::Refused(refusals)) => match refusals.as_slice() {
-            [refusal] => same("the problem", refusal.problem, problem),
-            _ => Err("there is more than one refusal".into()),
-        },
-        _ => Err("the text isn't refused".into()),
+/// The texts of decks, one after the other, are this text.
+fn have_text(library: &Library, decks: &[&str], edited: &str) -> Result<(), Fail> {
+    let alloc = library.allocator();
+    let mut reached = String::new(alloc);
+    for deck in decks {
+        let found = active_text(alloc, library, &name(deck)?)?;
+        reached.push_str(text(&found)?)?;
     }
+    same_text("the texts", reached.as_str(), edited)
+}
+
+/// A library is led to a text of decks by these runs.
+fn is_led(
+    library: &mut Library,
+    (decks, edited): (&[&str], &str),
+    runs: &[&str],
+) -> Result<(), Fail> {
+    let alloc = library.allocator();
+    let edited = text_of(alloc, &[Part::Text(edited)])?;
+    match correct_parts(alloc, library, b"Z", edited.as_bytes()) {
+        Ok(found) => are_runs(library, &found, runs)?,
+        Err(_) => return Err("the text is refused".into()),
+    }
+    have_text(library, decks, edited.as_str())
 }
 
 #[test]
-fn an_edit_of_2500_lines_is_two_runs(rt: HostRuntime) -> Result<(), Fail> {
-    expect_runs(
-        rt.alloc(),
-        &[
-            Part::Line("*DECK A"),
-            Part::Times(2_500, "NEW"),
-            Part::Times(499, "OLD"),
-        ],
-        &[
-            &[
-                Part::Line("*IDENT Z1\n*INSERT A.1"),
-                Part::Times(1_997, "NEW"),
-            ],
-            &[
-                Part::Line("*IDENT Z2\n*INSERT Z1.1997"),
-                Part::Times(503, "NEW"),
-                Part::Line("*DELETE A.501,X.1000"),
-            ],
-        ],
-    )
+fn long_edits_are_several_runs(rt: HostRuntime) -> Result<(), Fail> {
+    for (decks, edited, runs) in EDITS {
+        is_led(&mut after_long(rt.alloc(), LONG)?, (decks, edited), runs)?;
+    }
+    Ok(())
 }
 
-#[test]
-fn an_edit_that_fits_is_one_run_and_no_edit_is_none(rt: HostRuntime) -> Result<(), Fail> {
-    let alloc = rt.alloc();
-    expect_runs(
-        alloc,
-        &[Part::Line("*DECK A\nNEW"), Part::Times(2_999, "OLD")],
-        &[&[Part::Line("*IDENT Z1\n*INSERT A.1\nNEW")]],
-    )?;
-    expect_runs(
-        alloc,
-        &[Part::Line("*DECK A"), Part::Times(2_999, "OLD")],
-        &[],
-    )
-}
+/// Sets and edited texts, and why no runs can be: the name of a set, or of a deck.
+const REFUSED: &[(&str, &str, &str)] = &[
+    ("ABCDEFGHI", "*DECK B", "0:0 BadName\n"),
+    ("Z", "*DECK Z1", "1:1 NameTaken\n"),
+    ("Z", "*DECK Z2\n2100 x NEW", "0:0 NameTaken\n"),
+];
 
-#[test]
-fn new_decks_come_first(rt: HostRuntime) -> Result<(), Fail> {
-    let alloc = rt.alloc();
-    let edited = text_of(
-        alloc,
-        &[
-            Part::Line("*DECK B\nB\nC\n*COMDECK N"),
-            Part::Times(2_100, "NEW"),
-        ],
-    )?;
-    let Ok(runs) = correct_parts(alloc, &long(alloc)?, b"Z", edited.as_bytes()) else {
-        return Err("the text is refused".into());
-    };
-    same("the number of runs", runs.len(), 2)?;
-    let (Some(first), Some(second)) = (runs.first(), runs.get(1)) else {
-        return Err("there are no two runs".into());
-    };
-    holds(
-        "deck N comes first",
-        first.starts_with(b"*IDENT Z1\n*COMDECK N\nNEW\n"),
-    )?;
-    same_text(
-        "the second run",
-        text(second)?,
-        text_of(
-            alloc,
-            &[
-                Part::Line("*IDENT Z2\n*INSERT B.2\nC\n*INSERT N.1998"),
-                Part::Times(103, "NEW"),
-            ],
-        )?
-        .as_str(),
-    )
+fn is_refused(library: &Library, set: &str, edited: &str, wanted: &str) -> Result<(), Fail> {
+    let alloc = library.allocator();
+    let text = text_of(alloc, &[Part::Text(edited)])?;
+    match correct_parts(alloc, library, set.as_bytes(), text.as_bytes()) {
+        Ok(_) => Err("the text isn't refused".into()),
+        Err(error) => same_text(edited, refused(alloc, error)?.as_str(), wanted),
+    }
 }
 
 #[test]
 fn a_set_or_a_run_that_cant_be_is_refused(rt: HostRuntime) -> Result<(), Fail> {
-    let alloc = rt.alloc();
-    let taken = text_of(alloc, &[Part::Line("*DECK Z2"), Part::Times(2_100, "NEW")])?;
-    expect_problem(alloc, b"ABCDEFGHI", "*DECK B\n", Problem::BadName)?;
-    expect_problem(alloc, b"Z", "*DECK Z1\n", Problem::NameTaken)?;
-    expect_problem(alloc, b"Z", taken.as_str(), Problem::NameTaken)
+    let library = after_long(rt.alloc(), LONG)?;
+    for (set, edited, wanted) in REFUSED {
+        is_refused(&library, set, edited, wanted)?;
+    }
+    Ok(())
 }

@@ -4,56 +4,42 @@ use std::test::Fail;
 use upd_deck::read_run;
 use upd_testkit::check::same_text;
 
-/// The fault of a run as it is read, or nothing; `what` names it in the error.
-fn is_read(alloc: Global, what: &str, run: &[u8], wanted: &str) -> Result<(), Fail> {
-    let mut found = String::new(alloc);
-    if let Err(fault) = read_run(alloc, run) {
-        write!(found, "{fault}")?;
-    }
-    same_text(what, found.as_str(), wanted)
-}
-
-const RUNS: &[(&str, &str)] = &[
-    ("*ID X cleanup  \r\n*/ note\n*FOO A,,\n*CA,C remark", ""),
-    ("*DELETE A.2,", "BadField (7) at 1"),
-    ("*PURGE *", "BadName (5) at 1"),
-    ("*IDENT X\ty", "BadName (5) at 1"),
-    ("*IDENT X\n*DELETE A.999999", ""),
-    ("*IDENT X\n*DELETE A.1000000", "BadCard (6) at 2"),
-    ("a\r", "BadByte (3) at 1"),
-    ("a\x7F", "BadByte (3) at 1"),
-    ("text\n*/ note\n*DELETE *\n\x01", "BadCard (6) at 3"),
-    ("*DECK A,\rB", "BadByte (3) at 1"),
-    ("*DECK ABCDEFGHIJ,", "BadField (7) at 1"),
-    ("*IDENT X\n*DELETE A.2,A.0", "BadCard (6) at 2"),
-    ("*DECK A,\n*DECK A\r \n", "BadField (7) at 1"),
+/// Texts, how many times each is repeated in a run, and the fault of the run, or nothing.
+const RUNS: &[(&str, usize, &str)] = &[
+    ("*ID X cleanup  \r\n*/ note\n*FOO A,,\n*CA,C remark", 1, ""),
+    ("*DELETE A.2,", 1, "BadField (7) at 1"),
+    ("*PURGE *", 1, "BadName (5) at 1"),
+    ("*IDENT X\ty", 1, "BadName (5) at 1"),
+    ("*IDENT X\n*DELETE A.999999", 1, ""),
+    ("*IDENT X\n*DELETE A.1000000", 1, "BadCard (6) at 2"),
+    ("a\r", 1, "BadByte (3) at 1"),
+    ("a\x7F", 1, "BadByte (3) at 1"),
+    ("text\n*/ note\n*DELETE *\n\x01", 1, "BadCard (6) at 3"),
+    ("*DECK A,\rB", 1, "BadByte (3) at 1"),
+    ("*DECK ABCDEFGHIJ,", 1, "BadField (7) at 1"),
+    ("*IDENT X\n*DELETE A.2,A.0", 1, "BadCard (6) at 2"),
+    ("*DECK A,\n*DECK A\r \n", 1, "BadField (7) at 1"),
+    ("A", 80, ""),
+    ("A", 81, "LineLong (4) at 1"),
+    ("\n", 2_000, ""),
+    ("\n", 2_001, "TooManyLines (2) at 0"),
+    ("\n", 65_537, "RunLong (1) at 0"),
 ];
 
-#[test]
-fn faulty_lines_are_refused(rt: HostRuntime) -> Result<(), Fail> {
-    for (run, wanted) in RUNS {
-        is_read(rt.alloc(), run, run.as_bytes(), wanted)?;
+/// A run of this text so many times has this fault as it is read, or none.
+fn is_read(alloc: Global, (text, count): (&str, usize), wanted: &str) -> Result<(), Fail> {
+    let run = text.repeat(alloc, count)?;
+    let mut found = String::new(alloc);
+    if let Err(fault) = read_run(alloc, run.as_bytes()) {
+        write!(found, "{fault}")?;
     }
-    Ok(())
-}
-
-/// A run of `count` bytes that are all the same has this fault.
-fn is_refused(alloc: Global, count: usize, byte: u8, wanted: &str) -> Result<(), Fail> {
-    let run = vec![in alloc; byte; count]?;
-    is_read(alloc, "a long run", &run, wanted)
+    same_text((text, count), found.as_str(), wanted)
 }
 
 #[test]
-fn lines_have_80_bytes_and_runs_2000_lines_and_65536_bytes(rt: HostRuntime) -> Result<(), Fail> {
-    const LONG: &[(usize, u8, &str)] = &[
-        (80, b'A', ""),
-        (81, b'A', "LineLong (4) at 1"),
-        (2_000, b'\n', ""),
-        (2_001, b'\n', "TooManyLines (2) at 0"),
-        (65_537, b'\n', "RunLong (1) at 0"),
-    ];
-    for (count, byte, wanted) in LONG {
-        is_refused(rt.alloc(), *count, *byte, wanted)?;
+fn faulty_lines_and_long_runs_are_refused(rt: HostRuntime) -> Result<(), Fail> {
+    for (text, count, wanted) in RUNS {
+        is_read(rt.alloc(), (text, *count), wanted)?;
     }
     Ok(())
 }

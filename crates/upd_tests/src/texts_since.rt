@@ -1,63 +1,62 @@
 //! Texts that were taken when an older ident was the youngest, and the runs that correct them.
 
+use crate::edited_texts::run_for;
 use std::alloc::Global;
 use std::test::Fail;
-use upd_correct::{CorrectError, Problem, correct};
+use upd_core::Library;
 use upd_edit::{active_text, as_of};
 use upd_testkit::applying::{after, name};
-use upd_testkit::check::{same, same_text};
+use upd_testkit::check::same_text;
 
 const DECK: &str = "*DECK A\nONE\nTWO\nTHREE\n";
 
-/// After a later run deck A is as of A what it was; the run Z for an edit of that text, and deck A after it.
-fn expect(alloc: Global, later: &str, edited: &str, run: &str, left: &str) -> Result<(), Fail> {
-    let library = after(alloc, &[DECK, later])?;
-    let a = name("A")?;
-    let earlier = as_of(alloc, &library, &a)?;
-    is_deck(&active_text(alloc, &earlier, &a)?, DECK)?;
-    match correct(alloc, &earlier, b"Z", edited.as_bytes()) {
-        Ok(found) => same_text("the run", std::str::from_utf8(&found)?, run)?,
-        Err(_) => return Err("the text is refused".into()),
-    }
-    let library = after(alloc, &[DECK, later, run])?;
-    is_deck(&active_text(alloc, &library, &a)?, left)
-}
-
-fn is_deck(found: &[u8], text: &str) -> Result<(), Fail> {
-    same_text("deck A", std::str::from_utf8(found)?, text)
-}
-
-#[test]
-fn a_card_that_came_between_two_deleted_ones_stays(rt: HostRuntime) -> Result<(), Fail> {
-    expect(
-        rt.alloc(),
+/// A later run, an edit of the text of deck A as of A, the run for it, and deck A after it.
+const EDITS: &[[&str; 4]] = &[
+    // A card that came between two deleted ones stays.
+    [
         "*IDENT Y\n*INSERT A.2\nNEW\n",
         "*DECK A\nTHREE\n",
         "*IDENT Z\n*DELETE A.2\n*DELETE A.3\n",
         "*DECK A\nNEW\nTHREE\n",
-    )
-}
-
-#[test]
-fn a_line_that_was_changed_since_stays_changed(rt: HostRuntime) -> Result<(), Fail> {
-    expect(
-        rt.alloc(),
+    ],
+    // A line that was changed since stays changed.
+    [
         "*IDENT Y\n*DELETE A.2\nUN\n",
         "*DECK A\nONE\nTWO\nDREI\n",
         "*IDENT Z\n*DELETE A.4\nDREI\n",
         "*DECK A\nUN\nTWO\nDREI\n",
-    )
+    ],
+];
+
+fn is_deck(library: &Library, text: &str) -> Result<(), Fail> {
+    let found = active_text(library.allocator(), library, &name("A")?)?;
+    same_text("deck A", std::str::from_utf8(&found)?, text)
+}
+
+/// What comes of an edit of a library as of A is this.
+fn gives(library: &Library, edited: &str, wanted: &str) -> Result<(), Fail> {
+    let found = run_for(library.allocator(), library, "Z", edited)?;
+    same_text("the run", found.as_str(), wanted)
+}
+
+/// After a later run deck A is as of A what it was, and what comes of an edit of it is this.
+fn gives_since(alloc: Global, later: &str, edited: &str, wanted: &str) -> Result<(), Fail> {
+    let earlier = as_of(alloc, &after(alloc, &[DECK, later])?, &name("A")?)?;
+    is_deck(&earlier, DECK)?;
+    gives(&earlier, edited, wanted)
+}
+
+#[test]
+fn what_came_later_stays(rt: HostRuntime) -> Result<(), Fail> {
+    for [later, edited, run, left] in EDITS {
+        gives_since(rt.alloc(), later, edited, run)?;
+        is_deck(&after(rt.alloc(), &[DECK, later, run])?, left)?;
+    }
+    Ok(())
 }
 
 #[test]
 fn a_deck_that_came_later_is_refused(rt: HostRuntime) -> Result<(), Fail> {
-    let library = after(rt.alloc(), &[DECK, "*DECK B\nB\n"])?;
-    let earlier = as_of(rt.alloc(), &library, &name("A")?)?;
-    match correct(rt.alloc(), &earlier, b"Z", b"*DECK B\nC\n") {
-        Err(CorrectError::Refused(found)) => {
-            let problem = found.first().map(|refusal| refusal.problem);
-            same("the problem", problem, Some(Problem::OutOfUse))
-        }
-        _ => Err("there is a run".into()),
-    }
+    let edited = "*DECK B\nC\n";
+    gives_since(rt.alloc(), "*DECK B\nB\n", edited, "1:1 OutOfUse\n")
 }

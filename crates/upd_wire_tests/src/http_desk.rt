@@ -2,7 +2,7 @@
 use crate::list_desks::Lists;
 use std::alloc::Global;
 use std::test::Fail;
-use upd_testkit::check::{holds, same};
+use upd_testkit::check::same;
 use upd_testkit::fake_streams::{Held, Pieces};
 use upd_text::Fault;
 use upd_wire::serve_one;
@@ -38,7 +38,7 @@ Connection: close\r\n\r\n{\"at\":0,\"fault\":12,\"name\":\"DeckUnknown\"}",
 ];
 
 /// What is written and flushed for a request that is read at most `most` bytes at a time.
-pub fn answer_to(
+fn answer_to(
     alloc: Global,
     desk: &mut Lists,
     request: &[u8],
@@ -72,43 +72,4 @@ pub fn expect_all(
         expect_read(alloc, desk, (request, most), wanted)?;
     }
     Ok(())
-}
-
-/// The answer to a request is this text.
-pub fn expect(alloc: Global, desk: &mut Lists, request: &str, wanted: &str) -> Result<(), Fail> {
-    expect_read(alloc, desk, (request, 65_536), wanted)
-}
-
-/// The answer to a request without headers and body is this text.
-pub fn expect_plain(alloc: Global, desk: &mut Lists, line: &str, wanted: &str) -> Result<(), Fail> {
-    let request = format!(in alloc; "{line} HTTP/1.1\r\n\r\n")?;
-    expect(alloc, desk, &request, wanted)
-}
-
-/// Requests without headers and body have these answers, one after the other.
-pub fn expect_all_plain(
-    alloc: Global,
-    desk: &mut Lists,
-    requests: &[(&str, &str)],
-) -> Result<(), Fail> {
-    for (line, wanted) in requests {
-        expect_plain(alloc, desk, line, wanted)?;
-    }
-    Ok(())
-}
-
-/// A run is posted, and its answer is accepted.
-pub fn post(
-    alloc: Global,
-    desk: &mut Lists,
-    number: u32,
-    mode: &str,
-    run: &str,
-) -> Result<(), Fail> {
-    let length = run.len();
-    let request = format!(in alloc;
-        "POST /sites/LYON/runs/{number}/{mode} HTTP/1.1\r\nContent-Length: {length}\r\n\r\n{run}"
-    )?;
-    let answer = answer_to(alloc, desk, request.as_bytes(), 65_536)?;
-    holds(run, answer.starts_with(b"HTTP/1.1 200 OK\r\n"))
 }

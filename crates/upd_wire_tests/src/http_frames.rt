@@ -15,37 +15,6 @@ pub const RUN_LONG: &str =
     "HTTP/1.1 413 Payload Too Large\r\nContent-Type: application/json\r\nContent-Length: 35\r\n\
 Connection: close\r\n\r\n{\"at\":0,\"fault\":1,\"name\":\"RunLong\"}";
 
-/// The answer to a request that is read a thousand bytes at a time is this text.
-fn expect(alloc: Global, desk: &mut Lists, request: &str, wanted: &str) -> Result<(), Fail> {
-    expect_read(alloc, desk, (request, 1000), wanted)
-}
-
-/// A text of `count` bytes.
-fn filler(alloc: Global, count: usize) -> Result<String, Fail> {
-    let mut text = String::new(alloc);
-    for _ in 0..count {
-        text.push('x')?;
-    }
-    Ok(text)
-}
-
-/// A request with a body of 65,536 bytes, and this length.
-fn long_body(alloc: Global, line: &str, length: &str) -> Result<String, Fail> {
-    let body = filler(alloc, 65_536)?;
-    Ok(format!(in alloc; "{line} HTTP/1.1\r\nContent-Length: {length}\r\n\r\n{body}")?)
-}
-
-/// The answer to a request with a body of 65,536 bytes and this length is this text.
-fn expect_length(
-    alloc: Global,
-    desk: &mut Lists,
-    (line, length): (&str, &str),
-    wanted: &str,
-) -> Result<(), Fail> {
-    let request = long_body(alloc, line, length)?;
-    expect(alloc, desk, &request, wanted)
-}
-
 const LINE_LONG: &str =
     "HTTP/1.1 422 Unprocessable Entity\r\nContent-Type: application/json\r\nContent-Length: 91\r\n\
 Connection: close\r\n\r\n{\"at\":1,\"fault\":4,\"mode\":\"quick\",\"name\":\"LineLong\",\"run\":1,\
@@ -59,6 +28,18 @@ const BODIES: &[(&str, &str, &str)] = &[
     ("GET /idents", "99999999999999999999999999", RUN_LONG),
 ];
 
+/// The answer to a request with a body of 65,536 bytes and this length is this text.
+fn expect_length(
+    alloc: Global,
+    desk: &mut Lists,
+    (line, length): (&str, &str),
+    wanted: &str,
+) -> Result<(), Fail> {
+    let body = "x".repeat(alloc, 65_536)?;
+    let request = format!(in alloc; "{line} HTTP/1.1\r\nContent-Length: {length}\r\n\r\n{body}")?;
+    expect_read(alloc, desk, (&request, 1000), wanted)
+}
+
 /// A body of 65,536 bytes is a run; a longer one isn't read, on any known path.
 #[test]
 fn bodies_have_65536_bytes_at_most(rt: HostRuntime) -> Result<(), Fail> {
@@ -69,30 +50,26 @@ fn bodies_have_65536_bytes_at_most(rt: HostRuntime) -> Result<(), Fail> {
     Ok(())
 }
 
-/// Headers of a request for idents, and its answer.
-const HEADERS: &[(&str, &str)] = &[
-    ("Content-Length: 0\r\ncontent-length: 0\r\n", BAD_FRAME),
-    ("Content-Length:\r\n", BAD_FRAME),
-    ("Transfer-Encoding: chunked\r\n", BAD_FRAME),
-    ("CONTENT-LENGTH: \t000 \r\n", EMPTY_LISTING),
-    ("Expect: 100-continue\r\n", EMPTY_LISTING),
-];
-
-/// A request for idents with this header is answered by this text.
-fn expect_with(alloc: Global, desk: &mut Lists, header: &str, wanted: &str) -> Result<(), Fail> {
-    let request = format!(in alloc; "GET /idents HTTP/1.1\r\n{header}\r\n")?;
-    expect(alloc, desk, &request, wanted)
-}
-
-fn headers_are_answered(alloc: Global, desk: &mut Lists) -> Result<(), Fail> {
-    for (header, wanted) in HEADERS {
-        expect_with(alloc, desk, header, wanted)?;
-    }
-    Ok(())
-}
-
-/// Other requests and their answers.
-const OTHERS: &[(&str, &str)] = &[
+/// Requests with lengths that are not valid, on an unknown path as well, and with valid ones; the case of a header's
+/// name does not matter.
+const LENGTHS: &[(&str, &str)] = &[
+    (
+        "GET /idents HTTP/1.1\r\nContent-Length: 0\r\ncontent-length: 0\r\n\r\n",
+        BAD_FRAME,
+    ),
+    ("GET /idents HTTP/1.1\r\nContent-Length:\r\n\r\n", BAD_FRAME),
+    (
+        "GET /idents HTTP/1.1\r\nTransfer-Encoding: chunked\r\n\r\n",
+        BAD_FRAME,
+    ),
+    (
+        "GET /idents HTTP/1.1\r\nCONTENT-LENGTH: \t000 \r\n\r\n",
+        EMPTY_LISTING,
+    ),
+    (
+        "GET /idents HTTP/1.1\r\nExpect: 100-continue\r\n\r\n",
+        EMPTY_LISTING,
+    ),
     (
         "GET /nowhere HTTP/1.1\r\nTransfer-Encoding: chunked\r\n\r\n",
         BAD_FRAME,
@@ -101,10 +78,7 @@ const OTHERS: &[(&str, &str)] = &[
     ("GET /idents HTTP/1.0\r\n\r\n", EMPTY_LISTING),
 ];
 
-/// Lengths that are not valid, on an unknown path as well; a length is valid whatever the case of its name.
 #[test]
 fn lengths_come_once_in_digits(rt: HostRuntime) -> Result<(), Fail> {
-    let mut desk = empty_desk(rt.alloc());
-    headers_are_answered(rt.alloc(), &mut desk)?;
-    expect_all(rt.alloc(), &mut desk, 1000, OTHERS)
+    expect_all(rt.alloc(), &mut empty_desk(rt.alloc()), 1000, LENGTHS)
 }

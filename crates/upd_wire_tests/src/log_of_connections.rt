@@ -1,8 +1,7 @@
 //! What a server writes of the connections that it has served.
-use crate::http_connections::{Ticking, client_with, listener};
+use crate::http_connections::{Ticking, client_with, listener, longer};
 use crate::http_desk::QUICK;
 use crate::list_desks::{Lists, empty_desk};
-use std::alloc::Global;
 use std::io::{Read, Write};
 use std::test::Fail;
 use upd_testkit::check::{same, same_text};
@@ -17,7 +16,7 @@ fn served<W: Write>(
     log: &mut W,
 ) -> Result<(usize, u32), Fail> {
     let (listener, clock) = (listener(rt)?, Ticking::new(0, 0));
-    let mut client = client_with(rt, listener.local_addr()?, sent.as_bytes())?;
+    let mut client = client_with(rt, listener.local_addr()?, sent)?;
     let lost = serve_on_within(rt.alloc(), &clock, Listener::Tcp(&listener), 1, desk, log)?;
     let mut answer = Vec::new(rt.alloc());
     client.read_to_end(&mut answer)?;
@@ -84,16 +83,10 @@ fn each_connection_has_a_line(rt: HostRuntime) -> Result<(), Fail> {
 }
 
 /// A target is cut after 200 bytes.
-fn long_target(alloc: Global, letters: usize) -> Result<String, Fail> {
-    let letters = "a".repeat(alloc, letters)?;
-    Ok(format!(in alloc; "/{}", letters.as_str())?)
-}
-
 #[test]
 fn a_long_target_is_cut(rt: HostRuntime) -> Result<(), Fail> {
-    let (long, cut) = (long_target(rt.alloc(), 300)?, long_target(rt.alloc(), 199)?);
-    let sent = format!(in rt.alloc(); "GET {} HTTP/1.1\r\n\r\n", long.as_str())?;
-    let fields = format!(in rt.alloc(); "GET {} - - 404 BadFrame", cut.as_str())?;
+    let sent = longer(rt.alloc(), "GET /", ("a", 300), " HTTP/1.1\r\n\r\n")?;
+    let fields = longer(rt.alloc(), "GET /", ("a", 199), " - - 404 BadFrame")?;
     is_logged(&rt, &mut empty_desk(rt.alloc()), &sent, &fields)
 }
 

@@ -3,37 +3,17 @@
 //! Two desks are asked the same. At most one call meets the refusal: its desk is then as the other one, which isn't
 //! asked yet, and what it answers next is what the other one does.
 use crate::list_desks::desk_over;
-use crate::twin_desks::{Answer, Ask, Twins, put_again};
+use crate::twin_desks::{Ask, Twins, put_again};
 use std::alloc::Global;
 use std::test::Fail;
 use upd_apply::{Applied, apply};
-use upd_compile::{CompileFile, Mode, compile_file, list_idents};
+use upd_compile::{CompileFile, Mode, compile_file};
 use upd_core::{Library, Serial};
-use upd_deck::{Run, read_run};
+use upd_deck::read_run;
 use upd_desk::{Arrival, Reply};
 use upd_memory::ListStore;
 use upd_testkit::check::{holds, same, same_text};
 use upd_text::{Fault, FaultKind};
-
-/// Asks both a list: the last answer.
-fn ask_all(alloc: Global, list: &[Ask<'_>]) -> Result<Answer, Fail> {
-    let mut twins = Twins::new(alloc);
-    let mut last = Answer {
-        text: Ok(Vec::new(alloc)),
-        mark: None,
-        work: 0,
-    };
-    for asked in list {
-        last = twins.ask(alloc, *asked)?;
-    }
-    Ok(last)
-}
-
-/// The last answer to a list is this text.
-fn says(alloc: Global, list: &[Ask<'_>], wanted: &str) -> Result<(), Fail> {
-    let answer = ask_all(alloc, list)?;
-    same_text("the answer", std::str::from_utf8(&answer.text?)?, wanted)
-}
 
 const DECK_A: &str = "*DECK A\nONE\nTWO\nTHREE\n";
 
@@ -43,25 +23,20 @@ fn is_memory(fault: Fault) -> Result<(), Fail> {
     same("the fault", fault, FaultKind::NoMemory.without_line())
 }
 
-/// The run, read again if memory is refused.
-fn read_again(alloc: Global) -> Result<Run<'static>, Fail> {
-    match read_run(alloc, TRIAL.as_bytes()) {
-        Ok(run) => Ok(run),
-        Err(fault) => {
-            is_memory(fault)?;
-            Ok(read_run(alloc, TRIAL.as_bytes())?)
-        }
-    }
+/// A run is read and applied.
+fn applied(alloc: Global, library: &mut Library) -> Result<Applied, Fault> {
+    let run = read_run(alloc, TRIAL.as_bytes())?;
+    apply(alloc, library, &run)
 }
 
-/// A run is applied to an empty library, which stays so and is tried again if memory is refused.
-fn apply_again(alloc: Global, library: &mut Library, run: &Run<'_>) -> Result<Applied, Fail> {
-    match apply(alloc, library, run) {
+/// The same for an empty library, which stays so and is tried again if memory is refused.
+fn apply_again(alloc: Global, library: &mut Library) -> Result<Applied, Fail> {
+    match applied(alloc, library) {
         Ok(applied) => Ok(applied),
         Err(fault) => {
             is_memory(fault)?;
-            holds("no ident", list_idents(alloc, library)?.is_empty())?;
-            Ok(apply(alloc, library, run)?)
+            holds("no ident", library.idents().is_empty())?;
+            Ok(applied(alloc, library)?)
         }
     }
 }
@@ -71,35 +46,32 @@ fn compiled(alloc: Global, after: &Library, asked: &[Serial]) -> Result<CompileF
     compile_file(alloc, after, &Library::new(alloc), Mode::Full, asked)
 }
 
-/// The library is compiled, again if memory is refused.
-fn compile_again(alloc: Global, after: &Library, asked: &[Serial]) -> Result<CompileFile, Fail> {
-    match compiled(alloc, after, asked) {
-        Ok(file) => Ok(file),
+/// The library is compiled, again if memory is refused: the number of lines and of bytes, and whether ONE is first.
+fn compile_again(
+    alloc: Global,
+    after: &Library,
+    asked: &[Serial],
+) -> Result<(u32, usize, bool), Fail> {
+    let file = match compiled(alloc, after, asked) {
+        Ok(file) => file,
         Err(fault) => {
             is_memory(fault)?;
-            Ok(compiled(alloc, after, asked)?)
+            compiled(alloc, after, asked)?
         }
-    }
-}
-
-/// A run is applied to an empty library, which is compiled then.
-fn file_of(alloc: Global, run: &Run<'_>) -> Result<CompileFile, Fail> {
-    let mut library = Library::new(alloc);
-    let applied = apply_again(alloc, &mut library, run)?;
-    compile_again(alloc, &library, &applied.compile)
+    };
+    Ok((
+        file.lines,
+        file.bytes.len(),
+        file.bytes.starts_with(b"ONE "),
+    ))
 }
 
 /// A run that is read, applied to an empty library and compiled, each again if memory is refused.
 #[test]
 fn one_run_survives_a_refusal(rt: HostRuntime) -> Result<(), Fail> {
-    let alloc = rt.alloc();
-    let run = read_again(alloc)?;
-    let file = file_of(alloc, &run)?;
-    let found = (
-        file.lines,
-        file.bytes.len(),
-        file.bytes.starts_with(b"ONE "),
-    );
+    let mut library = Library::new(rt.alloc());
+    let applied = apply_again(rt.alloc(), &mut library)?;
+    let found = compile_again(rt.alloc(), &library, &applied.compile)?;
     same("sizes, the first line", found, (4, 388, true))
 }
 
@@ -118,14 +90,12 @@ fn purges_survive_a_refusal(rt: HostRuntime) -> Result<(), Fail> {
         Ask::Idents,
     ];
     let wanted = "1 A deck held\n2 X set purged\n3 B deck purged\n4 Y set purged\n";
-    says(rt.alloc(), LIST, wanted)
-}
-
-/// A run at or below the mark is refused.
-fn is_settled(answer: Answer) -> Result<(), Fail> {
-    let is_settled =
-        matches!(answer.text, Err(fault) if fault == FaultKind::Settled.without_line());
-    same("settled, a mark", (is_settled, answer.mark), (true, None))
+    let mut twins = Twins::new(rt.alloc());
+    let mut last = Vec::new(rt.alloc());
+    for asked in LIST {
+        last = twins.ask(rt.alloc(), *asked)?.text?;
+    }
+    same_text("the last answer", std::str::from_utf8(&last)?, wanted)
 }
 
 const SET_X: &str = "*IDENT X\n*DELETE A.3\n";
@@ -152,10 +122,15 @@ fn marks_are_answered(alloc: Global, twins: &mut Twins) -> Result<(), Fail> {
 
 #[test]
 fn settlements_survive_a_refusal(rt: HostRuntime) -> Result<(), Fail> {
-    let alloc = rt.alloc();
-    let mut twins = Twins::new(alloc);
-    marks_are_answered(alloc, &mut twins)?;
-    is_settled(twins.ask(alloc, Ask::Run(3, "full", ""))?)
+    let mut twins = Twins::new(rt.alloc());
+    marks_are_answered(rt.alloc(), &mut twins)?;
+    let answer = twins.ask(rt.alloc(), Ask::Run(3, "full", ""))?;
+    let settled = FaultKind::Settled.without_line();
+    same(
+        "settled, a mark",
+        (answer.text.err(), answer.mark),
+        (Some(settled), None),
+    )
 }
 
 fn arrival<'a>(number: u64, text: &'a str) -> Arrival<'a> {

@@ -4,7 +4,7 @@ use crate::list_desks::{are_stored, desk_over};
 use std::alloc::Global;
 use std::test::Fail;
 use upd_memory::ListStore;
-use upd_testkit::check::{holds, same};
+use upd_testkit::check::same;
 use upd_testkit::fake_streams::Narrow;
 use upd_testkit::worked_spool::SPOOL;
 use upd_text::{Fault, FaultKind};
@@ -26,14 +26,8 @@ fn spooled(alloc: Global, store: &mut ListStore) -> Result<(Result<u32, Fault>, 
     Ok((ended, output.taken))
 }
 
-fn count_lines(text: &[u8]) -> u32 {
-    let mut lines: u32 = 0;
-    for byte in text {
-        if *byte == b'\n' {
-            lines = lines.saturating_add(1);
-        }
-    }
-    lines
+fn count_lines(text: &[u8]) -> usize {
+    text.iter().filter(|byte| **byte == b'\n').count()
 }
 
 /// The number of frames that a spool with this end answered: those before one that was refused memory.
@@ -55,7 +49,7 @@ fn are_answered(
     before: &[u8],
 ) -> Result<(), Fail> {
     let frames = answered_frames(ended)?;
-    same("answers before", count_lines(before), frames)?;
+    same("answers before", count_lines(before), frames as usize)?;
     are_stored(alloc, store, frames)
 }
 
@@ -110,17 +104,12 @@ fn served(
     Ok((ended, output.taken))
 }
 
-/// A request that ended in a fault found no memory for its answer, and none of it is written.
-fn is_lost(fault: Fault, answer: &[u8]) -> Result<(), Fail> {
-    same("the fault", fault, FaultKind::NoMemory.without_line())?;
-    holds("no answer", answer.is_empty())
-}
-
 /// What is written for a request, nothing where no memory is left for the answer.
 fn answered(alloc: Global, store: &mut ListStore, request: &str) -> Result<Vec<u8>, Fail> {
     let (ended, answer) = served(alloc, store, request)?;
     if let Err(fault) = ended {
-        is_lost(fault, &answer)?;
+        let wanted = (FaultKind::NoMemory.without_line(), true);
+        same("the fault, no answer", (fault, answer.is_empty()), wanted)?;
     }
     Ok(answer)
 }

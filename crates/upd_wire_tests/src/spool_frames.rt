@@ -29,8 +29,8 @@ fn all_come_out(
     Ok(())
 }
 
-/// Headers of 63 or 64 bytes, most of them a site, with the answers and the ends.
-const LONG_HEADERS: &[(&str, &str, &str)] = &[
+/// Headers of 63 or 64 bytes, most of them a site; and runs that are refused. With the answers and the ends.
+const REFUSED: &[(&str, &str, &str)] = &[
     (
         "RUN SSSSSSSSSSSSSSSSSSSSSSSSSSSSSSSSSSSSSSSSSSSSSSSSSS 1 full 0\n\n",
         BAD_SITE,
@@ -51,12 +51,26 @@ const LONG_HEADERS: &[(&str, &str, &str)] = &[
         "",
         "BadFrame (30) at 1",
     ),
+    ("RUN LYON 0 full 0\n\n", BAD_NUMBER, "1"),
+    ("RUN lyon 999999999 full 0\n\n", BAD_SITE, "1"),
+    ("RUN LYON 1 FULL 0\n\n", BAD_MODE, "1"),
+    ("RUN LYON 1 full 6\nHELLO\n\n", NOWHERE, "1"),
+    ("RUN LYON 1 quick 6\nHELLO\n\n", CHANGED, "1"),
 ];
 
-/// A header of 63 bytes or more, made so by its site, is checked at its LF.
+/// After a settlement, a run that is settled, and one more.
+const AFTER: &[(&str, &str, &str)] = &[(
+    "RUN LYON 1 full 6\nHELLO\n\nRUN LYON 0 full 0\n\n",
+    "{\"at\":0,\"fault\":27,\"name\":\"Settled\"}\n{\"at\":0,\"fault\":24,\"name\":\"BadNumber\"}\n",
+    "2",
+)];
+
 #[test]
-fn headers_have_63_bytes_at_most(rt: HostRuntime) -> Result<(), Fail> {
-    all_come_out(rt.alloc(), &mut empty_desk(rt.alloc()), LONG_HEADERS)
+fn refusals_are_answers(rt: HostRuntime) -> Result<(), Fail> {
+    let mut desk = empty_desk(rt.alloc());
+    all_come_out(rt.alloc(), &mut desk, REFUSED)?;
+    desk.settle_site(rt.alloc(), "LYON", 1)?;
+    all_come_out(rt.alloc(), &mut desk, AFTER)
 }
 
 /// Lines that are not headers, with semicolons between them.
@@ -83,36 +97,9 @@ fn bad_headers_end_a_spool(rt: HostRuntime) -> Result<(), Fail> {
     same("the lines", count, 22)
 }
 
-/// Runs that are refused, with their answers and ends.
-const REFUSED: &[(&str, &str, &str)] = &[
-    ("RUN LYON 0 full 0\n\n", BAD_NUMBER, "1"),
-    ("RUN lyon 999999999 full 0\n\n", BAD_SITE, "1"),
-    ("RUN LYON 1 FULL 0\n\n", BAD_MODE, "1"),
-    ("RUN LYON 1 full 6\nHELLO\n\n", NOWHERE, "1"),
-    ("RUN LYON 1 quick 6\nHELLO\n\n", CHANGED, "1"),
-];
-
-/// After a settlement, a run that is settled, and one more.
-const AFTER: &[(&str, &str, &str)] = &[(
-    "RUN LYON 1 full 6\nHELLO\n\nRUN LYON 0 full 0\n\n",
-    "{\"at\":0,\"fault\":27,\"name\":\"Settled\"}\n{\"at\":0,\"fault\":24,\"name\":\"BadNumber\"}\n",
-    "2",
-)];
-
-#[test]
-fn refusals_are_answers(rt: HostRuntime) -> Result<(), Fail> {
-    let mut desk = empty_desk(rt.alloc());
-    all_come_out(rt.alloc(), &mut desk, REFUSED)?;
-    desk.settle_site(rt.alloc(), "LYON", 1)?;
-    all_come_out(rt.alloc(), &mut desk, AFTER)
-}
-
-/// The shortest frame.
-const TINY: &str = "RUN L 0 q 0\n\n";
-
 /// The first `bytes` bytes of the shortest frames one after the other.
 fn tiny_frames(alloc: Global, bytes: usize, end: &str) -> Result<(), Fail> {
-    let mut input = Cycle::new(TINY.as_bytes(), bytes);
+    let mut input = Cycle::new(b"RUN L 0 q 0\n\n", bytes);
     let mut output = Tally { bytes: 0, lines: 0 };
     ends(alloc, &mut empty_desk(alloc), &mut input, &mut output, end)?;
     let found = (output.lines, output.bytes);

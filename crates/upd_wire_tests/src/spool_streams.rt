@@ -6,19 +6,7 @@ use std::test::Fail;
 use upd_testkit::check::{same, same_text};
 use upd_testkit::fake_streams::Held;
 use upd_testkit::worked_spool::{ANSWERS, SPOOL};
-use upd_text::Fault;
 use upd_wire::spool;
-
-/// Where the answers to each of the frames end.
-pub const ANSWER_ENDS: [usize; 4] = [0, 389, 482, 773];
-
-/// How a spool ended.
-fn ended(alloc: Global, end: Result<u32, Fault>) -> Result<String, Fail> {
-    match end {
-        Ok(count) => Ok(format!(in alloc; "{count}")?),
-        Err(fault) => Ok(format!(in alloc; "{fault}")?),
-    }
-}
 
 /// A spool over a reader and a writer has this end.
 pub fn ends<R: Read, W: Write>(
@@ -28,19 +16,11 @@ pub fn ends<R: Read, W: Write>(
     output: &mut W,
     end: &str,
 ) -> Result<(), Fail> {
-    let result = spool(alloc, input, output, desk);
-    same_text("the end", ended(alloc, result)?.as_str(), end)
-}
-
-/// A spool that ended and was answered so has these answers and this end.
-fn came_out(
-    alloc: Global,
-    text: &str,
-    (res, output): (Result<u32, Fault>, &[u8]),
-    (answers, end): (&str, &str),
-) -> Result<(), Fail> {
-    same_text(text, ended(alloc, res)?.as_str(), end)?;
-    same_text(text, std::str::from_utf8(output)?, answers)
+    let found = match spool(alloc, input, output, desk) {
+        Ok(count) => format!(in alloc; "{count}")?,
+        Err(fault) => format!(in alloc; "{fault}")?,
+    };
+    same_text("the end", found.as_str(), end)
 }
 
 /// A spool at once has these answers and this end.
@@ -48,70 +28,37 @@ pub fn comes_out(
     alloc: Global,
     desk: &mut Lists,
     text: &str,
-    wanted: (&str, &str),
+    (answers, end): (&str, &str),
 ) -> Result<(), Fail> {
     let mut output = Vec::new(alloc);
-    let result = spool(alloc, &mut text.as_bytes(), &mut output, desk);
-    came_out(alloc, text, (result, &output), wanted)
+    ends(alloc, desk, &mut text.as_bytes(), &mut output, end)?;
+    same_text(text, std::str::from_utf8(&output)?, answers)
 }
 
-/// A spool ended since the answer to this frame couldn't be written, after the first `bytes` bytes of the answers.
-fn ended_at_write(
-    alloc: Global,
-    (text, answers): (&str, &str),
-    found: (Result<u32, Fault>, &[u8]),
-    (frame, bytes): (u32, usize),
-) -> Result<(), Fail> {
-    let front = answers.get(..bytes).ok_or("too much")?;
-    let end = format!(in alloc; "Write (33) at {frame}")?;
-    came_out(alloc, text, found, (front, &end))
+/// The number of the flush that fails, or 0; the end; and where the answers end that are out.
+const FLUSHES: &[(usize, &str, &[usize])] = &[
+    (0, "3", &[389, 482, 773]),
+    (1, "Write (33) at 1", &[]),
+    (2, "Write (33) at 2", &[389]),
+    (3, "Write (33) at 3", &[389, 482]),
+];
+
+fn is_flushed(alloc: Global, fails_at: usize, end: &str, fronts: &[usize]) -> Result<(), Fail> {
+    let mut held = Held::new(alloc, fails_at);
+    let mut input = SPOOL.as_bytes();
+    ends(alloc, &mut empty_desk(alloc), &mut input, &mut held, end)?;
+    let last = fronts.last().copied().unwrap_or(0);
+    let answers = ANSWERS.as_bytes().get(..last).ok_or("too much")?;
+    let found = (held.flushed.as_slice(), held.fronts.as_slice());
+    same("the answers, the fronts", found, (answers, fronts))
 }
 
-/// Each answer of the spool is flushed.
-fn all_are_flushed(alloc: Global, text: &str, answers: &str) -> Result<(), Fail> {
-    let mut held = Held::new(alloc, 0);
-    let mut input = text.as_bytes();
-    ends(alloc, &mut empty_desk(alloc), &mut input, &mut held, "3")?;
-    same(
-        "the answers, the fronts",
-        (held.flushed.as_slice(), held.fronts.as_slice()),
-        (answers.as_bytes(), &ANSWER_ENDS[1..]),
-    )
-}
-
-/// A writer that holds back what isn't flushed has each answer before the next one comes.
+/// A writer that holds back what isn't flushed has each answer before the next one comes. A flush that fails is a failed
+/// write, and the next frame isn't read.
 #[test]
-fn each_answer_is_flushed(rt: HostRuntime) -> Result<(), Fail> {
-    all_are_flushed(rt.alloc(), SPOOL, ANSWERS)
-}
-
-/// Flush number `at` fails: the answers before it are out.
-fn flush_fails(
-    alloc: Global,
-    (text, answers): (&str, &str),
-    (at, front): (u32, usize),
-) -> Result<(), Fail> {
-    let mut held = Held::new(alloc, at as usize);
-    let result = spool(
-        alloc,
-        &mut text.as_bytes(),
-        &mut held,
-        &mut empty_desk(alloc),
-    );
-    let found = (result, held.flushed.as_slice());
-    ended_at_write(alloc, (text, answers), found, (at, front))
-}
-
-/// Each of the three flushes fails.
-fn flushes_fail(alloc: Global, worked: (&str, &str)) -> Result<(), Fail> {
-    let [none, first, second, _] = ANSWER_ENDS;
-    flush_fails(alloc, worked, (1, none))?;
-    flush_fails(alloc, worked, (2, first))?;
-    flush_fails(alloc, worked, (3, second))
-}
-
-/// A flush that fails is a failed write, and the next frame isn't read.
-#[test]
-fn each_flush_may_fail(rt: HostRuntime) -> Result<(), Fail> {
-    flushes_fail(rt.alloc(), (SPOOL, ANSWERS))
+fn each_answer_is_flushed_and_each_flush_may_fail(rt: HostRuntime) -> Result<(), Fail> {
+    for (fails_at, end, fronts) in FLUSHES {
+        is_flushed(rt.alloc(), *fails_at, end, fronts)?;
+    }
+    Ok(())
 }

@@ -1,0 +1,93 @@
+//! A library into which others could put commits, by its folder or by the log beside its file: no command opens it.
+use crate::console::{fresh, remove};
+use crate::file_sessions::{NO_LIBRARY, SILENT, Step, take_all};
+use crate::lone_logs::logged;
+use std::fs;
+use std::os::unix::fs::{PermissionsExt, chown};
+use std::test::Fail;
+use upd_keep::Situation;
+use upd_testkit::check::holds;
+
+const INIT_FAILS: Step<'static> = Step::Answers("init", &[], "", NO_LIBRARY);
+
+/// What is tried on a library in a folder that everybody may write.
+const IN_OPEN_FOLDER: &[Step<'_>] = &[
+    INIT_FAILS,
+    Step::AllAnswer(NO_LIBRARY),
+    Step::Is(Situation::OpenFolder),
+    Step::Answers(
+        "examine",
+        &[],
+        "",
+        (
+            3,
+            "",
+            "upd: everybody may write its folder, and so put another file or log there: \
+`chmod o-w` or `chmod +t` on the folder\n",
+        ),
+    ),
+];
+
+/// All steps are as they say while a folder has this mode.
+fn take_under(
+    rt: &HostRuntime,
+    folder: &str,
+    mode: u32,
+    file: &str,
+    steps: &[Step<'_>],
+) -> Result<(), Fail> {
+    fs::set_permissions(rt, folder, fs::Permissions::from_mode(mode))?;
+    take_all(rt, file, steps)
+}
+
+#[test]
+fn a_library_in_an_open_folder_is_refused(rt: HostRuntime) -> Result<(), Fail> {
+    const UNMADE: &[Step<'_>] = &[INIT_FAILS];
+    const MADE: &[Step<'_>] = &[Step::Answers("init", &[], "", SILENT)];
+    const READ: &[Step<'_>] = &[Step::Writes("idents", &[], "")];
+    const EMPTY: &[Step<'_>] = &[INIT_FAILS, Step::Is(Situation::OpenFolder)];
+    let folder = fresh(&rt, "open")?;
+    let file = format!(in rt.alloc(); "{}/a.db", folder.as_str())?;
+    fs::create_dir(&rt, folder.as_str())?;
+    take_under(&rt, &folder, 0o777, &file, UNMADE)?;
+    holds("no file is made", !fs::exists(&rt, file.as_str())?)?;
+    take_under(&rt, &folder, 0o1777, &file, MADE)?;
+    take_under(&rt, &folder, 0o777, &file, IN_OPEN_FOLDER)?;
+    take_under(&rt, &folder, 0o775, &file, READ)?;
+    fs::write(&rt, file.as_str(), b"")?;
+    take_under(&rt, &folder, 0o777, &file, EMPTY)?;
+    remove(&rt, &file)?;
+    Ok(fs::remove_dir(&rt, folder.as_str())?)
+}
+
+/// What is tried on a library with the log of another user.
+const BESIDE_FOREIGN_LOG: &[Step<'_>] = &[
+    INIT_FAILS,
+    Step::AllAnswer(NO_LIBRARY),
+    Step::Is(Situation::ForeignLog),
+    Step::Answers(
+        "examine",
+        &[],
+        "",
+        (
+            3,
+            "",
+            "upd: the log beside it, FILE-wal, is another user's, who may be at work: \
+let that user run `upd spool FILE </dev/null`, or move it away\n",
+        ),
+    ),
+];
+
+/// The log of the file's owner is taken, and, where the test may change owners, that of another user is refused.
+#[test]
+fn a_log_of_another_user_is_refused(rt: HostRuntime) -> Result<(), Fail> {
+    const OTHER: u32 = 65_533;
+    let file = logged(&rt, "owned")?;
+    let log = format!(in rt.alloc(); "{}-wal", file.as_str())?;
+    if chown(&rt, log.as_str(), Some(OTHER), None).is_ok() {
+        take_all(&rt, &file, BESIDE_FOREIGN_LOG)?;
+        chown(&rt, file.as_str(), Some(OTHER), None)?;
+    }
+    take_all(&rt, &file, &[Step::Writes("sites", &[], "LYON 3 3 4 0\n")])?;
+    remove(&rt, &file)
+}
