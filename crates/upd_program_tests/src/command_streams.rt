@@ -213,7 +213,7 @@ For more information, try '--help'.
 const MISSPELT: &str = "\
 error: unrecognized subcommand 'trail'
 
-  tip: a similar subcommand exists: 'trial'
+  tip: some similar subcommands exist: 'try-at', 'trial'
 
 Usage: upd <COMMAND>
 
