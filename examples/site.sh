@@ -87,6 +87,18 @@ numbers() {
     done | grep '^[1-9][0-9]*$' | sort -n
 }
 
+# The greatest number that was given. Who removes runs from FOLDER/sent leaves their replies, or the settlement.
+greatest() {
+    {
+        numbers
+        for reply in "$folder/replies"/*.json; do
+            name=${reply##*/}
+            printf '%s\n' "${name%.json}"
+        done | grep '^[1-9][0-9]*$'
+        sed -n 's/.*"settled":\([1-9][0-9]*\),.*/\1/p' "$folder/settled.json" 2>/dev/null
+    } | sort -n | tail -n 1
+}
+
 # Why a file in the outbox can't be sent; nothing where it can.
 obstacle() {
     case $1 in
@@ -104,7 +116,7 @@ obstacle() {
 
 # Gives each run in the outbox its number. A rename happens wholly or not at all.
 number_runs() {
-    number=$(numbers | tail -n 1)
+    number=$(greatest)
     number=${number:-0}
     for run in "$folder/outbox"/*; do
         [ -e "$run" ] || continue # the outbox is empty
