@@ -1,5 +1,6 @@
 //! A crash at each call of the disk: what is opened again holds the answered arrivals, with or without the one in hand.
 use crate::fused_files::{Bytes, Cut, Fused, Work, survives_crashes, work_in};
+use crate::table_rows::table_rows;
 use sqlite::Connection;
 use sqlite_disk::Files;
 use std::alloc::Global;
@@ -12,7 +13,6 @@ use upd_testkit::check::same_text;
 use upd_testkit::reference_desk::ReferenceDesk;
 use upd_testkit::reference_rows::reference_tables;
 use upd_testkit::session::Session;
-use upd_testkit::table_rows::table_rows;
 use upd_text::{Fault, FaultKind};
 
 /// The library in a database; a new one if there is no library in it.

@@ -38,6 +38,8 @@ mod surface_desk;
 #[cfg(test)]
 mod surface_wire;
 #[cfg(test)]
+mod table_rows;
+#[cfg(test)]
 mod worked_lists;
 #[cfg(test)]
 mod written_store;

@@ -1,6 +1,7 @@
 //! Older files in memory, migrated to the current schema: the same listings, the same repeats, and a desk over them.
 use crate::empty_stores::{adopted, refused};
 use crate::older_files::Older;
+use crate::table_rows::table_rows;
 use sqlite::{Connection, MemStore};
 use std::alloc::Global;
 use std::test::Fail;
@@ -10,7 +11,6 @@ use upd_testkit::asks::Ask;
 use upd_testkit::check::{same, same_text};
 use upd_testkit::reference_desk::ReferenceDesk;
 use upd_testkit::session::Session;
-use upd_testkit::table_rows::table_rows;
 use upd_text::{Fault, FaultKind};
 
 fn older(alloc: Global, file: Older) -> Result<Connection<MemStore>, Fail> {

@@ -1,9 +1,9 @@
 //! Older files, statement by statement, and what their tables hold after a migration.
+use crate::table_rows::table_rows;
 use sqlite::{Alter, Connection};
 use std::alloc::Global;
 use std::test::Fail;
 use upd_testkit::check::{holds, same_text};
-use upd_testkit::table_rows::table_rows;
 
 /// The tables that each schema has.
 const FIRST_TABLES: [&str; 6] = [

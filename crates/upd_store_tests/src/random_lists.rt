@@ -1,6 +1,7 @@
 //! Random lists of arrivals and settlements over three stores, beside the reference desk: the answers, and the tables of
 //! SQLite row by row.
 use crate::empty_stores::{Fresh, Tables, adopted, fresh_session};
+use crate::table_rows::table_rows;
 use sqlite::MemStore;
 use std::alloc::Global;
 use std::test::Fail;
@@ -13,7 +14,6 @@ use upd_testkit::random_runs::{DECKS, Dice, LISTINGS, random_run};
 use upd_testkit::reference_desk::ReferenceDesk;
 use upd_testkit::reference_rows::reference_tables;
 use upd_testkit::session::Session;
-use upd_testkit::table_rows::table_rows;
 
 /// A store over which random lists are tried.
 trait Tried: Fresh {

@@ -1,4 +1,4 @@
-//! What the crates of tests share: checks, random runs, a reference desk, a desk beside it, the rows of tables, and streams
+//! What the crates of tests share: checks, random runs, a reference desk, a desk beside it, and streams
 //! that fail.
 //!
 //! A check ends a test by an error, since a library may not end a program.
@@ -13,5 +13,4 @@ pub mod reference_desk;
 pub mod reference_rows;
 pub mod replies;
 pub mod session;
-pub mod table_rows;
 pub mod worked_spool;

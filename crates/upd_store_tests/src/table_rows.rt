@@ -1,9 +1,9 @@
 //! The rows of a library's tables as text, as SQL reads them.
-use crate::reference_rows::joined;
 use sqlite::types::ValueRef;
 use sqlite::{Alter, Connection, Row};
 use std::alloc::Global;
 use std::test::Fail;
+use upd_testkit::reference_rows::joined;
 
 const TABLES: [&str; 9] = [
     "meta", "idents", "cards", "entries", "targets", "states", "counts", "runs", "settled",
