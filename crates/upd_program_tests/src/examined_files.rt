@@ -1,9 +1,7 @@
 //! What is said of a path that is examined, whatever is there.
 use crate::console::{accepts, fresh, library, remove};
-use crate::file_changes::execute_and_close;
 use crate::file_sessions::{SILENT, Step, Wanted, session, session_without_file, take_all};
 use crate::site_commands::{NO_MARKS, SECOND_SCHEMA};
-use sqlite::Connection;
 use std::fs;
 use std::test::Fail;
 use upd_keep::Situation;
@@ -130,15 +128,14 @@ fn a_row_beside_the_version_is_found(rt: HostRuntime) -> Result<(), Fail> {
     session(&rt, "beside", STEPS)
 }
 
+/// A database with none of a library's tables.
 #[test]
 fn another_database_is_named(rt: HostRuntime) -> Result<(), Fail> {
-    let file = fresh(&rt, "another")?;
-    execute_and_close(
-        Connection::open(&rt, &file)?,
-        "CREATE TABLE note (id INTEGER PRIMARY KEY) STRICT",
-    )?;
-    take_all(&rt, &file, &[Step::Is(Situation::NotLibrary)])?;
-    remove(&rt, &file)
+    const OTHER: &str =
+        "DROP TABLE meta; DROP TABLE idents; DROP TABLE cards; DROP TABLE entries; DROP TABLE targets; \
+DROP TABLE states; DROP TABLE counts; DROP TABLE runs; DROP TABLE settled; CREATE TABLE note (id INTEGER PRIMARY KEY) STRICT";
+    const STEPS: &[Step<'_>] = &[Step::Changes(OTHER), Step::Is(Situation::NotLibrary)];
+    session(&rt, "another", STEPS)
 }
 
 /// The second page of a file is overwritten.

@@ -22,7 +22,7 @@ fn execute<D: Disk + Drop>(conn: &mut Connection<FileStore<D>>, sql: &str) -> bo
 }
 
 /// Executes a statement and closes the connection.
-pub fn execute_and_close<D: Disk + Drop>(
+fn execute_and_close<D: Disk + Drop>(
     mut conn: Connection<FileStore<D>>,
     sql: &str,
 ) -> Result<(), Fail> {
