@@ -146,6 +146,7 @@ def try_folders(paths):
     file = paths.library("open/open.db")
     os.chmod(place, 0o777)
     paths.is_said(file, "everybody may write its folder")
+    paths.is_said(place / "new.db", "everybody may write its folder")
     ended = subprocess.run([paths.upd, "init", "new.db"], cwd=place, capture_output=True, text=True, check=False)
     right = (ended.returncode, ended.stderr) == (3, "upd: Store (29) at 0\n") and not (place / "new.db").exists()
     paths.judge(right, "init in such a folder", ended)

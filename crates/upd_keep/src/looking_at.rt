@@ -24,7 +24,15 @@ pub(crate) fn situation_at(rt: &HostRuntime, path: &str) -> Option<Situation> {
             Err(error) => Some(of_reading(error.kind())),
         },
         Ok(situation) => situation,
-        Err(error) => Some(of_reading(error.kind())),
+        Err(error) => Some(of_missing(rt, path, of_reading(error.kind()))),
+    }
+}
+
+/// The situation of a path that can't be looked at: in a folder that everybody may write `init` makes no file either.
+fn of_missing(rt: &HostRuntime, path: &str, situation: Situation) -> Situation {
+    match situation {
+        Situation::NoFile if is_open_folder(rt, path).unwrap_or(false) => Situation::OpenFolder,
+        _ => situation,
     }
 }
 

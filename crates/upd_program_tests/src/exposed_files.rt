@@ -42,10 +42,9 @@ fn take_under(
 
 #[test]
 fn a_library_in_an_open_folder_is_refused(rt: HostRuntime) -> Result<(), Fail> {
-    const UNMADE: &[Step<'_>] = &[INIT_FAILS];
     const MADE: &[Step<'_>] = &[Step::Answers("init", &[], "", SILENT)];
     const READ: &[Step<'_>] = &[Step::Writes("idents", &[], "")];
-    const EMPTY: &[Step<'_>] = &[INIT_FAILS, Step::Is(Situation::OpenFolder)];
+    const UNMADE: &[Step<'_>] = &[INIT_FAILS, Step::Is(Situation::OpenFolder)];
     let folder = fresh(&rt, "open")?;
     let file = format!(in rt.alloc(); "{}/a.db", folder.as_str())?;
     fs::create_dir(&rt, folder.as_str())?;
@@ -55,7 +54,7 @@ fn a_library_in_an_open_folder_is_refused(rt: HostRuntime) -> Result<(), Fail> {
     take_under(&rt, &folder, 0o777, &file, IN_OPEN_FOLDER)?;
     take_under(&rt, &folder, 0o775, &file, READ)?;
     fs::write(&rt, file.as_str(), b"")?;
-    take_under(&rt, &folder, 0o777, &file, EMPTY)?;
+    take_under(&rt, &folder, 0o777, &file, UNMADE)?;
     remove(&rt, &file)?;
     Ok(fs::remove_dir(&rt, folder.as_str())?)
 }

@@ -183,7 +183,7 @@ const BACKUP: Text = Text {
     about: "Makes a whole copy of a library's file",
     more: "\
 Copies the library in FILE, with what is still in the log beside it, to the new file COPY: a library by
-itself. COPY must not exist, nor COPY-wal or COPY.part. FILE isn't changed, and no other command may
+itself. COPY must not exist, nor COPY-wal or COPY.part. The library stays, and no other command may
 have it open. Nothing is read from standard input or written to standard output.
 
 Exit status: 0 done; 2 the command line can't be read; 3 COPY exists or can't be made, out of memory,
@@ -243,8 +243,8 @@ pub(crate) const EXPLAIN: Text = Text {
     more: "\
 Reads nothing, and writes three lines. FAULT is a fault's name or its number.
 
-Exit status: 0 done; 1 no fault has this name or number, which is BadName; 2 the command line can't
-be read; 3 out of memory, or a write failed. The fault is one line on standard error.
+Exit status: 0 done; 1 no fault has this name or number: BadName, and then all faults; 2 the command
+line can't be read; 3 out of memory, or a write failed. The fault is one line on standard error.
 
 Example:
   upd explain Store",

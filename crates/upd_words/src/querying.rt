@@ -216,8 +216,8 @@ const TEXT: Text = Text {
     about: "Writes the active cards of a deck as plain text, to be edited",
     more: "\
 Reads nothing, and writes a line for each active card, the deck's first line included; calls stay
-calls. Changes nothing. What it writes is a run that adds the deck to an empty library, and what
-`upd correct` takes once it is edited.
+calls. Changes nothing. What it writes is what `upd correct` takes once it is edited, and, without
+calls and in at most 2,000 lines, a run that adds the deck to an empty library.
 
 Exit status: 0 done; 1 DECK is not a name, or there is no such deck; 2 the command line can't be
 read; 3 out of memory, or the library or a write failed. The fault is one line on standard error.
@@ -231,7 +231,7 @@ const TEXT_AT: Text = Text {
     about: "Writes the text of a deck as it was when the ident SINCE was the youngest",
     more: "\
 Reads nothing, and writes what `upd text` writes, as if all younger idents were yanked. What was
-purged since is missing. Changes nothing. The last line of `upd idents` names the youngest ident.
+purged since is missing. Changes nothing. The last held ident of `upd idents` is the youngest.
 
 Exit status: 0 done; 1 DECK or SINCE is not a name, or there is no such deck or ident; 2 the command
 line can't be read; 3 out of memory, or the library or a write failed.
