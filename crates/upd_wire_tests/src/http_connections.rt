@@ -215,37 +215,38 @@ fn accepts_that_fail_for_a_while_end_nothing(rt: HostRuntime) -> Result<(), Fail
     ends_after(&rt, 990, (Ok(()), 1_980))
 }
 
-/// How many seconds a connection at a listener is served.
-fn seconds_served(rt: &HostRuntime, listener: &TcpListener) -> Result<u64, Fail> {
+/// How many milliseconds a connection at a listener is served.
+fn millis_served(rt: &HostRuntime, listener: &TcpListener) -> Result<u128, Fail> {
     let start = Instant::now(rt)?;
     serve(rt.alloc(), rt, (listener, 1), &mut empty_desk(rt.alloc()))?;
-    Ok(start.elapsed(rt)?.as_secs())
+    Ok(start.elapsed(rt)?.as_millis())
 }
 
-/// A client that has written this and leaves its connection open is served for some seconds, and reads this.
+/// A client that has written this and leaves its connection open is served for some milliseconds, and reads this. The
+/// system's timers may end some milliseconds early.
 fn is_waited_for(
     rt: &HostRuntime,
     (sent, wanted): Exchange<'_>,
-    (least, most): (u64, u64),
+    (least, most): (u128, u128),
 ) -> Result<(), Fail> {
     let listener = listener(rt)?;
     let mut client = client_after(rt, listener.local_addr()?, sent)?;
-    let waited = seconds_served(rt, &listener)?;
-    holds(("seconds", waited), least <= waited && waited <= most)?;
+    let waited = millis_served(rt, &listener)?;
+    holds(("milliseconds", waited), least <= waited && waited <= most)?;
     reads(rt.alloc(), &mut client, wanted)
 }
 
 /// A client that says nothing is waited for four seconds; so is one whose run is too long, which may still send it.
 #[test]
 fn a_client_that_may_still_send_is_not_waited_for_for_ever(rt: HostRuntime) -> Result<(), Fail> {
-    is_waited_for(&rt, ("", ""), (4, 7))?;
-    is_waited_for(&rt, (LONG_FRONT, RUN_LONG), (4, 7))
+    is_waited_for(&rt, ("", ""), (3_900, 7_999))?;
+    is_waited_for(&rt, (LONG_FRONT, RUN_LONG), (3_900, 7_999))
 }
 
 /// After an answer whose request was read to its end, the client is waited for one second.
 #[test]
 fn an_answered_client_is_waited_for_briefly(rt: HostRuntime) -> Result<(), Fail> {
-    is_waited_for(&rt, (QUICK, QUICK_ANSWER), (1, 3))
+    is_waited_for(&rt, (QUICK, QUICK_ANSWER), (900, 3_899))
 }
 
 /// A clock that goes forward by some seconds whenever it is read, after some first readings.
