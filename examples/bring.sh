@@ -6,8 +6,8 @@
 #
 #     bring.sh [--c] [--skip] [--list LIST] FILE SITE NUMBER
 #
-# Standard input names the source files, one a line. FILE is the library; it is read for the names in use, and no command may
-# have it open. The runs are of SITE, and numbered from NUMBER on. UPD is the program (`upd` unless it is set).
+# Standard input names the source files, one a line. FILE is the library; it is read for the names in use, and copied, and no
+# command may have it open. The runs are of SITE, and numbered from NUMBER on. UPD is the program (`upd` unless it is set).
 #
 # A deck is named by its file: the name up to its first point, in upper case, cut to 9 bytes, with `-` for each byte that no
 # name has. A name that is in use gets /2, /3 and so on at its end. A file that is too long for a run is added by several: after
@@ -26,12 +26,12 @@
 #                   as it is. So are the bytes of a file that has a NUL, a backslash before such a byte, or such a byte in a line
 #                   with a wide or Unicode literal, as L"..".
 #
-# Before the spool is written, it is tried on an empty library: tree.sh, from this script's folder, writes each file back, and
-# each is compared with its source.
+# Before the spool is written, it is tried on a copy of FILE, which has to accept each run, and on an empty library: tree.sh,
+# from this script's folder, writes each file back, and each is compared with its source.
 #
 # Exit status:
 #   0  the spool is written, with --skip perhaps without some files
-#   1  a file can't be read, a line can't be a card, or the library has no room: nothing is written
+#   1  a file can't be read, a line can't be a card, or FILE refuses a run, as for want of room: nothing is written
 #   2  the words can't be read
 #   3  something else failed, as a command or the disk; what was written may be incomplete
 set -u
@@ -226,7 +226,10 @@ list_deck() {
     printf 'deck %s\n' "$1"
     path=$2
     case /$path in
-    */../*) path=${path##*../} ;;
+    */../*)
+        path=/$path
+        path=${path##*/../}
+        ;;
     esac
     printf '%s\n' "$path" | awk '
         BEGIN { for (i = 1; i < 256; i++) code[sprintf("%c", i)] = sprintf("\\0%03o", i) }
@@ -261,7 +264,7 @@ add_file() {
     printf '%s\n%s\n' "$path" "$1" >>"$added"
 }
 
-while IFS= read -r file; do
+while IFS= read -r file || [ -n "$file" ]; do
     files=$((files + 1))
     if [ ! -f "$file" ] || [ ! -r "$file" ]; then
         say "$file is not a file that can be read"
@@ -285,12 +288,19 @@ if [ "$unfit" -gt 0 ]; then
     [ -n "$skip" ] || exit 1
 fi
 
-# The spool on the empty library: each run is accepted, and each file is written back as it was.
-"$upd" spool "$work/empty" <"$spool" >"$work/answers" || exit 3
-if grep -v '"state":"accepted"}$' "$work/answers" >&2; then
-    say "these runs are refused"
-    exit 1
-fi
+# Sends the spool to a library, which has to accept each run.
+try_spool() {
+    "$upd" spool "$1" <"$spool" >"$work/answers" || exit 3
+    if grep -v '"state":"accepted"}$' "$work/answers" >&2; then
+        say "these runs are refused"
+        exit 1
+    fi
+}
+
+# The spool on a copy of the library, and on the empty one, from which each file is written back as it was.
+"$upd" backup -- "$library" "$work/copy" || exit 3
+try_spool "$work/copy"
+try_spool "$work/empty"
 UPD=$upd sh "$tree" "$work/empty" "$work/tree" <"$work/list" || exit 3
 while IFS= read -r path && IFS= read -r file; do
     cmp -s "$work/tree/$path" - <"$file" || {

@@ -47,6 +47,7 @@ case $2 in
 '' | *[!A-Z0-9]* | ?????????*) usage ;;
 esac
 folder=$1 site=$2 desk=$3
+case $folder in -*) folder=./$folder ;; esac
 upd=${UPD:-upd} tries=${TRIES:-10} pause=${PAUSE:-5}
 newline='
 '
@@ -73,6 +74,7 @@ done
 mkdir -p "$folder/outbox" "$folder/sent" "$folder/replies" || exit 3
 
 # Only one script at a time works in a folder. What sends for it has the lock too, and ends before another script begins.
+(: >>"$folder/lock") || exit 3
 exec 9>"$folder/lock" || exit 3
 flock -n 9 || {
     say "another site.sh is at work in $folder"
@@ -119,8 +121,9 @@ number_runs() {
     number=$(greatest)
     number=${number:-0}
     for run in "$folder/outbox"/*; do
-        [ -e "$run" ] || continue # the outbox is empty
+        [ -e "$run" ] || [ -L "$run" ] || continue # the outbox is empty
         why=$(obstacle "$run")
+        if [ "$number" -ge 999999999 ]; then why="can't be sent: $site has no number left"; fi
         if [ -n "$why" ]; then
             say "$run $why; it stays there"
             result=1
@@ -157,7 +160,7 @@ send() {
         esac
         ;;
     *)
-        "$upd" run "$desk" "$site" "$number" "$mode" <"$run" >"$part"
+        "$upd" run -- "$desk" "$site" "$number" "$mode" <"$run" >"$part"
         case $? in
         0 | 1) ;;
         2) return 4 ;;
@@ -206,7 +209,7 @@ settle() {
     sync # the replies are on the disk before the library forgets them
     case $program in
     curl) post "$answer.part" '' "settled/$1" && [ "$status" = 200 ] ;;
-    *) "$upd" settle "$desk" "$site" "$1" >"$answer.part" ;;
+    *) "$upd" settle -- "$desk" "$site" "$1" >"$answer.part" ;;
     esac && grep -q '"settled":' "$answer.part" && mv "$answer.part" "$answer"
 }
 
