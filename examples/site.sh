@@ -18,7 +18,8 @@
 # site settles up to the greatest number, and the library forgets the replies. Keep FOLDER/sent until a backup of the library
 # has these runs.
 #
-# A site that has sent runs in another way begins after its greatest number, 41, say: touch FOLDER/sent/41.used
+# A site that has sent runs in another way, or whose FOLDER is restored from a backup, begins after its greatest number, which
+# `upd sites` shows, 41, say: touch FOLDER/sent/41.used
 #
 # Exit status:
 #   0  all runs are answered and settled, and none was refused

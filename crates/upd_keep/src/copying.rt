@@ -68,9 +68,9 @@ pub fn whole_copy<D: Disk + Drop>(
 
 /// Makes a file that is a whole copy of a library's file, which `file` names. It is written under the name of the copy
 /// followed by `.part`, and gets its own name last, so that a kill leaves no part of it under that name. Its rights are
-/// at most those of the library's file. Write, at 0, where the copy, that part or a log beside the copy exists, or where it
-/// can't be written; no part of it is left then. Else the faults of `whole_copy`. No clause speaks of the copy itself, but
-/// only of what is written there.
+/// at most those of the library's file. Write, at 0, where the copy, that part, or a log or journal beside the copy exists,
+/// or where it can't be written; no part of it is left then. Else the faults of `whole_copy`. No clause speaks of the copy
+/// itself, but only of what is written there.
 pub fn backup<D: Disk + Drop>(
     rt: &HostRuntime,
     conn: Connection<FileStore<D>>,
@@ -94,12 +94,13 @@ pub fn backup<D: Disk + Drop>(
     }
 }
 
-/// Makes a file with these bytes and at most the rights of another, which has no log. The name is given by a link, since
-/// a link never replaces a file.
+/// Makes a file with these bytes and at most the rights of another, which has no log and no journal. The name is given by a
+/// link, since a link never replaces a file.
 fn write_new(rt: &HostRuntime, model: &str, path: &str, bytes: &[u8]) -> io::Result<()> {
     let part = format!(in rt.alloc(); "{path}.part")?;
     let log = format!(in rt.alloc(); "{path}-wal")?;
-    if is_taken(rt, path) || is_taken(rt, log.as_str()) {
+    let journal = format!(in rt.alloc(); "{path}-journal")?;
+    if is_taken(rt, path) || is_taken(rt, log.as_str()) || is_taken(rt, journal.as_str()) {
         return Err(io::Error::from(ErrorKind::AlreadyExists));
     }
     write_part(rt, model, part.as_str(), bytes)?;

@@ -80,7 +80,7 @@ fn is_in_the_way(rt: &HostRuntime, file: &str, copy: &str, ending: &str) -> Resu
 
 #[test]
 fn what_is_in_the_way_of_a_copy_stays(rt: HostRuntime) -> Result<(), Fail> {
-    const ENDINGS: [&str; 3] = ["", "-wal", ".part"];
+    const ENDINGS: [&str; 4] = ["", "-wal", "-journal", ".part"];
     let (file, copy) = (library(&rt, "kept")?, fresh(&rt, "kept-copy")?);
     for ending in ENDINGS {
         is_in_the_way(&rt, &file, &copy, ending)?;

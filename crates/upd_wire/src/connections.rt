@@ -28,8 +28,12 @@ const LIFETIME: u64 = 30;
 /// How long a read may take after the answer to a request that was read to its end, in seconds.
 const FAREWELL: u64 = 1;
 
+/// How many bytes are written at most before the clock is looked at: a Unix socket gives a write its time anew for each part
+/// that the client takes.
+const PIECE: usize = 65_536;
+
 /// How many reads of what a client still sends are discarded after an answer.
-const SURPLUS_READS: u32 = 64;
+const SURPLUS_READS: u32 = 4096;
 
 /// How many failures to accept a connection in a row end a server that has a clock.
 const MAX_FAILED_ACCEPTS: u32 = 100;
@@ -271,7 +275,8 @@ impl<C: Clock> Read for Client<'_, C> {
 impl<C: Clock> Write for Client<'_, C> {
     fn write(&mut self, buf: &[u8]) -> io::Result<usize> {
         self.check_time()?;
-        let count = (&mut &*self.stream).write(buf)?;
+        let piece = &buf[..buf.len().min(PIECE)];
+        let count = (&mut &*self.stream).write(piece)?;
         self.bytes = self.bytes.saturating_add(count as u64);
         Ok(count)
     }
