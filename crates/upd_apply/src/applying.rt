@@ -7,9 +7,8 @@ ghost use Rattle.upd_records.specs.Rows.{Rows, Shows};
 ghost use Rattle.upd_diff.specs.States.{TakeGone};
 ghost use Rattle.upd_diff.specs.RowChanges.{RowChanges};
 ghost use Rattle.upd_core.specs.Sound.{AreApart, Continues, IsSound, all_cards, key_of};
-ghost use Rattle.upd_text.specs.Outcome.{DoesAt, FailsAt, GivesAt, at_line};
-ghost use Rattle.upd_apply.specs.Applying.{ages_brought, applied, stepped, touched};
-ghost use Rattle.upd_apply.specs.Compile.{named_decks};
+ghost use Rattle.upd_text.specs.Outcome.{DoesAt, FailsAt, at_line};
+ghost use Rattle.upd_apply.specs.Applying.{applied, stepped, touched};
 ghost use Rattle.upd_apply.specs.Numbers.{next_most};
 ghost use Rattle.upd_apply.specs.Step.{step};
 
@@ -57,42 +56,40 @@ pub fn apply(alloc: Global, library: &mut Library, run: &Run) -> Result<Applied,
     ensures refused { IfErr result (λ fault. FailsAt fault (applied run.now library.old)) }
     ensures err { OnErr result (library.new ≡ library.old) }
 {
-    let mut state = State::new(library.copy()?);
-    take_steps(&mut state, run.lines())?;
-    let applied = outcome(alloc, library, &state.library, run.lines())?;
-    *library = state.library;
-    Ok(applied)
-}
-
-/// The results of a run, from the library before and after it.
-fn outcome(
-    alloc: Global,
-    before: &Library,
-    after: &Library,
-    lines: &[Line],
-) -> Result<Applied, Fault>
-    ensures idents { IfOk result (λ a. a.idents.items ≡ ages_brought before.now after.now) }
-    ensures compile { GivesAt (λ a. a.compile.items) result (named_decks lines.now after.now) }
-    ensures touched { AreApart (map key_of (all_cards before.now))
-        → IfOk result (λ a. a.touched.items ≡ touched before.now after.now) }
-    ensures row_changes { IfOk result (λ a. RowChanges before.now after.now (map change_view a.changes.items)) }
-    ensures changes { (rows : Rows) → IsSound before.now → Continues before.now.idents after.now.idents
-        → Shows rows before.now
-        → IfOk result (λ a. Shows (done_all (map change_view a.changes.items) rows) after.now) }
-    ensures states { IsSound before.now → IsSound after.now → Continues before.now.idents after.now.idents
-        → IfOk result (λ a. TakeGone before.now after.now (map change_view a.changes.items)) }
-    ensures fits { (rows : Rows) → IsSound before.now → Continues before.now.idents after.now.idents
-        → Shows rows before.now
-        → IfOk result (λ a. AllFit (map change_view a.changes.items) rows) }
-{
-    let compile = named_decks(alloc, after, lines)?;
-    let idents = ages_from(alloc, after.idents(), before.idents().len())?;
-    let Compared { changes, touched } = compare(alloc, before, after)?;
+    let after = reach(alloc, library, run)?;
+    let Compared { changes, touched } = compare(alloc, library, &after.library)?;
+    *library = after.library;
     Ok(Applied {
-        idents,
-        compile,
+        idents: after.idents,
+        compile: after.compile,
         touched,
         changes,
+    })
+}
+
+/// A library that a run reaches, with the serials of the idents that it introduced and of the decks that `*COMPILE` named.
+#[derive(Debug, Drop)]
+pub struct ReachedLibrary {
+    pub library: Library,
+    pub idents: Vec<Serial>,
+    pub compile: Vec<Serial>,
+}
+
+/// What a run makes of a library, which stays as it is.
+pub fn reach(alloc: Global, library: &Library, run: &Run) -> Result<ReachedLibrary, Fault>
+    ensures ok { IfOk result (λ r. applied run.now library.now
+        ≡ Ok (record { library = r.library; idents = r.idents.items; compile = r.compile.items })) }
+    ensures continues { IfOk result (λ r. Continues library.now.idents r.library.idents) }
+    ensures refused { IfErr result (λ fault. FailsAt fault (applied run.now library.now)) }
+{
+    let mut state = State::new(library.copy()?);
+    take_steps(&mut state, run.lines())?;
+    let compile = named_decks(alloc, &state.library, run.lines())?;
+    let idents = ages_from(alloc, state.library.idents(), library.idents().len())?;
+    Ok(ReachedLibrary {
+        library: state.library,
+        idents,
+        compile,
     })
 }
 

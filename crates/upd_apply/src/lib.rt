@@ -12,6 +12,6 @@ pub mod state;
 mod step;
 mod yanks;
 
-pub use applying::{Applied, apply, purge_back};
+pub use applying::{Applied, ReachedLibrary, apply, purge_back, reach};
 pub use state::{CurrentSet, InsertPoint, State};
 pub use step::numbers_rise_by_one;

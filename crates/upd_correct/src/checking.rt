@@ -13,7 +13,7 @@ ghost use Rattle.upd_correct.specs.Checked.{HasTexts, IsChecked, result_of};
 use crate::checked_library::{have_texts, is_corrected};
 use crate::edited_deck::EditedDeck;
 use std::alloc::Global;
-use upd_apply::apply;
+use upd_apply::reach;
 use upd_core::Library;
 use upd_deck::read_run;
 use upd_text::Fault;
@@ -72,12 +72,11 @@ fn applied_checked(
     ensures refused { IfErr result (λ fault. FailsAt fault (result_of run.now library.now)) }
 {
     let lines = read_run(alloc, run)?;
-    let mut after = library.copy()?;
-    let applied = apply(alloc, &mut after, &lines)?;
-    if !applied.compile.is_empty() {
+    let reached = reach(alloc, library, &lines)?;
+    if !reached.compile.is_empty() {
         return Ok(false);
     }
-    is_corrected(alloc, library, &after, set, run, decks)
+    is_corrected(alloc, library, &reached.library, set, run, decks)
 }
 
 /// Whether a run is empty, or begins with the `*IDENT` of a set.

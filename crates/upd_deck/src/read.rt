@@ -127,6 +127,7 @@ fn trimmed(line: &[u8]) -> &[u8]
 }
 
 /// Line numbers rise from 1 to at most 2,000, and each span begins at or after the end of the one before it.
+#[tactic(auto, using(crate::proofs::OrderLaws::lines_follow, crate::proofs::OrderLaws::numbers_are_few))]
 pub fn lines_follow_one_another()
     ensures order { (bytes : List ℕ) → IfOk (reading bytes) (FollowFrom 1 0) }
     ensures numbers { (bytes : List ℕ) → IfOk (reading bytes) (AllByRecursion (λ line. line.number ≤ MAX_RUN_LINES)) }
