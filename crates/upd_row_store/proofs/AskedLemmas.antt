@@ -46,7 +46,7 @@ module _ (cards : List CardRef) (i : ℕ) (c : CardRef) (inside : i < length car
       known_next cards i c inside is (λ (r : CardRef) (k : CardRef). same_ref r k) (sorted.contains by_name had) (sorted.contains by_name has) before
       (λ k. put k ∙ ap (λ b. cond b true (sorted.contains by_name had k)) (sym (is_same-is_eq c k)))
 
-filter_each : {A : Type 0} (p q : A → Bool) → ((x : A) → p x ≡ q x) → (xs : List A) → filter p xs ≡ filter q xs
+pub filter_each : {A : Type 0} (p q : A → Bool) → ((x : A) → p x ≡ q x) → (xs : List A) → filter p xs ≡ filter q xs
 filter_each p q same xs = ap (λ (f : _ → Bool). filter f xs) (λ j x. same x j)
 
 pub filter_made : {A B : Type 0} (test : B → Bool) (f : A → B) (xs : List A) → filter test (map f xs) ≡ map f (filter (λ x. test (f x)) xs)

@@ -17,7 +17,7 @@ ghost use Rattle.upd_core.specs.Parts.{part_of};
 ghost use Rattle.upd_row_store.specs.PartRows.{AreOfDistinctCards, part_rows};
 
 use crate::by_card::rows_of;
-use crate::parts::part_of;
+use crate::parts::{name_set, rows_of_part};
 use std::alloc::{AllocError, Global};
 use std::collections::{BTreeMap, BTreeSet};
 use std::mem;
@@ -207,18 +207,6 @@ fn decks_in(
     Ok(decks)
 }
 
-/// The names of cards as a set.
-fn name_set(alloc: Global, cards: &[CardRow]) -> Result<BTreeSet<Name>, AllocError>
-    ensures { IfOk result (λ set. (name : Bytes) → sorted.contains (slice_cmp nat_cmp) set name
-        ≡ list_any (λ r. bytes_eq r.card.name name) cards.now) }
-{
-    let mut set = BTreeSet::new(alloc);
-    for row in cards {
-        set.insert(row.card.name)?;
-    }
-    Ok(set)
-}
-
 /// The idents that have a name of a set.
 fn idents_named(
     alloc: Global,
@@ -312,8 +300,10 @@ pub fn assembled_part(
     ensures { (tables : Rows) (l : LibraryView) → IsSound l → IsWhole l → Shows tables l → AreRowsOf tables rows
         → IfOk result (λ found. found ≡ part_of ages.now l) }
 {
-    let (idents, decks) = idents_and_decks(alloc, rows)?;
-    Ok(part_of(alloc, idents, decks, ages))
+    let cards = rows.cards.len() as u64;
+    let entries = rows.entries.len() as u64;
+    let part = rows_of_part(alloc, rows, ages)?;
+    assembled_with_rest(alloc, part, cards, entries)
 }
 
 /// A part of a library from its own rows: all idents and targets, the cards of `YANK$$$` and of the decks that are

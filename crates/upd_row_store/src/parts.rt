@@ -1,92 +1,88 @@
-//! A library of which some decks aren't loaded.
-ghost use Rattle.std.specs.Prelude.{◌≡◌, ◌<◌, ◌^◌, ℕ, not, if◌then◌else◌, length, sum_by};
-ghost use Rattle.std.specs.List.{filter};
-ghost use Rattle.upd_core.specs.Counts.{capped};
+//! The rows of some decks.
+ghost use Rattle.std.specs.Prelude.{◌≡◌, ℕ, ◌==◌, ◌&&◌, ◌||◌, IfOk};
+ghost use Rattle.std.specs.BTreeSet as sorted;
+ghost use Rattle.std.specs.Cmp.Lexicographic.{slice_cmp};
+ghost use Rattle.std.specs.List.{filter, list_any};
+ghost use Rattle.std.specs.Ordering.{nat_cmp};
+ghost use Rattle.std.specs.Str.{bytes_eq};
+ghost use Rattle.upd_text.specs.Order.{by_name};
+ghost use Rattle.upd_text.specs.Units.{Bytes};
+ghost use Rattle.upd_text.specs.declared.card_ref.CardRef.{CardRef};
 ghost use Rattle.upd_core.specs.Edits.{is_among};
-ghost use Rattle.upd_row_store.specs.Assembling.{library_of};
-ghost use Rattle.upd_core.specs.Parts.{cards_of_decks, entries_of_decks, part_of};
+ghost use Rattle.upd_records.specs.Rows.{Rows, same_ref};
+ghost use Rattle.upd_row_store.specs.Assembling.{AreRowsOf};
+ghost use Rattle.upd_row_store.specs.PartRows.{part_rows};
 
-use std::alloc::Global;
-use upd_core::card::entry_count;
-use upd_core::{Deck, Ident, Library, Rest, Serial};
+use std::alloc::{AllocError, Global};
+use std::collections::BTreeSet;
+use upd_core::{CardRef, Serial};
+use upd_records::{CardRow, EntryRow, LibraryRows};
+use upd_text::Name;
 
-/// How many cards a deck adds to the rest: none where it is loaded, that is of one of these ages.
-fn cards_left_out(deck: &Deck, ages: &[Serial]) -> usize
-    ensures { result ≡ (if not (is_among ages.now deck.now.ident) then capped (length deck.now.cards) else 0) }
+/// The names of cards as a set.
+pub(crate) fn name_set(alloc: Global, cards: &[CardRow]) -> Result<BTreeSet<Name>, AllocError>
+    ensures { IfOk result (λ set. (name : Bytes) → sorted.contains (slice_cmp nat_cmp) set name
+        ≡ list_any (λ r. bytes_eq r.card.name name) cards.now) }
 {
-    if ages.contains(&deck.ident) {
-        0
-    } else {
-        deck.cards.len()
+    let mut set = BTreeSet::new(alloc);
+    for row in cards {
+        set.insert(row.card.name)?;
     }
+    Ok(set)
 }
 
-/// How many entries a deck adds to the rest: none where it is loaded.
-fn entries_left_out(deck: &Deck, ages: &[Serial]) -> usize
-    ensures { result ≡ (if not (is_among ages.now deck.now.ident)
-        then capped (sum_by (λ c. length c.history) deck.now.cards) else 0) }
+/// The cards themselves as a set.
+fn row_set(alloc: Global, cards: &[CardRow]) -> Result<BTreeSet<CardRef>, AllocError>
+    ensures { IfOk result (λ set. (card : CardRef) → sorted.contains by_name set card
+        ≡ list_any (λ r. same_ref r.card card) cards.now) }
 {
-    if ages.contains(&deck.ident) {
-        0
-    } else {
-        entry_count(&deck.cards)
+    let mut set = BTreeSet::new(alloc);
+    for row in cards {
+        set.insert(row.card)?;
     }
+    Ok(set)
 }
 
-/// How many cards the decks have that aren't of these ages.
-fn all_cards_left_out(decks: &[Deck], ages: &[Serial]) -> usize
-    ensures { result ≡ capped (cards_of_decks (filter (λ d. not (is_among ages.now d.ident)) decks.now)) }
+fn age_set(alloc: Global, ages: &[Serial]) -> Result<BTreeSet<Serial>, AllocError>
+    ensures { IfOk result (λ set. (age : ℕ) → sorted.contains nat_cmp set age ≡ is_among ages.now age) }
 {
-    let mut count: usize = 0;
-    for deck in decks {
-        count = count.saturating_add(cards_left_out(deck, ages));
+    let mut set = BTreeSet::new(alloc);
+    for age in ages {
+        set.insert(*age)?;
     }
-    count
+    Ok(set)
 }
 
-/// How many entries the decks have that aren't of these ages.
-fn all_entries_left_out(decks: &[Deck], ages: &[Serial]) -> usize
-    ensures { result ≡ capped (entries_of_decks (filter (λ d. not (is_among ages.now d.ident)) decks.now)) }
+/// Takes the cards of decks other than `YANK$$$` and these away.
+fn keep_cards(cards: &mut Vec<CardRow>, ages: &BTreeSet<Serial>)
+    ensures { cards.new.items
+        ≡ filter (λ r. (r.deck == 0) || sorted.contains nat_cmp ages.now r.deck) cards.old.items }
 {
-    let mut count: usize = 0;
-    for deck in decks {
-        count = count.saturating_add(entries_left_out(deck, ages));
-    }
-    count
+    cards.retain(|row| row.deck == 0 || ages.contains(&row.deck));
 }
 
-/// Takes the decks of other ages away.
-fn keep_decks(decks: &mut Vec<Deck>, ages: &[Serial])
-    ensures { decks.new.items ≡ filter (λ d. not (not (is_among ages.now d.ident))) decks.old.items }
+/// Takes the entries of other cards away. `names` has the names of the cards: they are fewer, so looked at first.
+fn keep_entries(entries: &mut Vec<EntryRow>, names: &BTreeSet<Name>, cards: &BTreeSet<CardRef>)
+    ensures { entries.new.items ≡ filter (λ e. sorted.contains (slice_cmp nat_cmp) names.now e.card.name
+        && sorted.contains by_name cards.now e.card) entries.old.items }
 {
-    decks.retain(|deck| ages.contains(&deck.ident));
+    entries.retain(|row| names.contains(&row.card.name) && cards.contains(&row.card));
 }
 
-/// The library of a directory and decks, of which the first is `YANK$$$`, without the other decks that aren't of these
-/// ages.
-pub(crate) fn part_of(
+/// The rows of a library without those of the decks that aren't of these ages; memory alone can fail.
+pub(crate) fn rows_of_part(
     alloc: Global,
-    idents: Vec<Ident>,
-    decks: Vec<Deck>,
+    rows: LibraryRows,
     ages: &[Serial],
-) -> Library
-    ensures { cards_of_decks (library_of idents.items decks.items).decks < 2 ^ 64
-        → entries_of_decks (library_of idents.items decks.items).decks < 2 ^ 64
-        → result ≡ part_of ages.now (library_of idents.items decks.items) }
+) -> Result<LibraryRows, AllocError>
+    ensures { (tables : Rows) → AreRowsOf tables rows
+        → IfOk result (λ part. AreRowsOf (part_rows ages.now tables) part) }
 {
-    let mut decks = decks;
-    if decks.is_empty() {
-        let rest = Rest {
-            cards: 0,
-            entries: 0,
-        };
-        return Library::of_parts(idents, decks, Vec::new(alloc), rest);
-    }
-    let yanks = decks.remove(0);
-    let rest = Rest {
-        cards: all_cards_left_out(&decks, ages),
-        entries: all_entries_left_out(&decks, ages),
-    };
-    keep_decks(&mut decks, ages);
-    Library::of_parts(idents, decks, yanks.cards, rest)
+    let mut rows = rows;
+    let ages = age_set(alloc, ages)?;
+    keep_cards(&mut rows.cards, &ages);
+    let names = name_set(alloc, &rows.cards)?;
+    let cards = row_set(alloc, &rows.cards)?;
+    keep_entries(&mut rows.entries, &names, &cards);
+    Ok(rows)
 }

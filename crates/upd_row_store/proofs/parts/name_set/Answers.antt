@@ -2,7 +2,7 @@ use Rattle.upd_row_store.proofs.Common.{◌≡◌, ap, arith, cond, is_eq, nat_c
 use Rattle.std.specs.BTreeSet as sorted
 use Rattle.upd_text.specs.Units.{Bytes}
 use Rattle.upd_row_store.proofs.NamedLemmas.{AreNamesOf, names_next}
-use Rattle.upd_row_store.proofs.assemble.name_set.Goals as goal
+use Rattle.upd_row_store.proofs.parts.name_set.Goals as goal
 
 pub loop-row-init : goal.loop-row-init
 loop-row-init c = λ k. rw c.new-set.ensures.empty refl
