@@ -4,7 +4,10 @@ use Rattle.upd_row_store.proofs.Common.{◌∙◌, dedup, filter, list_any, IsPe
 use Rattle.upd_row_store.proofs.Common.{then_total, is_eq, CardRef, by_name, is_same_reference, is_same-is_eq, any_append, same_ref_is, IsSame, Rows}
 use Rattle.upd_row_store.proofs.Common.{same_ref, is_asked}
 use Rattle.std.proofs.lemmas.List.{take_more}
+use Rattle.upd_row_store.proofs.Common.{DeckView, Ident, LibraryView, Option, library_of}
 use Rattle.std.specs.BTreeSet as sorted
+use Rattle.std.specs.Option.{option_to_list}
+use Rattle.upd_core.specs.Library.{deck_of}
 use Rattle.std.specs.BTreeSet.{BTreeSet}
 use Rattle.std.specs.List.Sorted.{IsStrictlySortedBy}
 use Rattle.std.proofs.lemmas.List.Kept.{IsStrictlySortedBy-dedup}
@@ -66,6 +69,14 @@ states_kept cards set rows all kept of same is =
     subst (λ l. IsSame l (map state_pair (filter (λ r. is_asked cards r.card) rows.states)))
     (sym (is ∙ filter_each (λ (p : CardRef × Bool). sorted.contains by_name set p.0) (λ p. is_asked cards p.0) (λ p. of p.0) all))
     (subst (IsSame (filter (λ p. is_asked cards p.0) all)) (filter_made (λ p. is_asked cards p.0) state_pair rows.states) same)
+
+-- ---- the deck of a name
+
+-- the directory alone has it
+pub named_alone : (name : List ℕ) (l found : LibraryView) (idents : List Ident) (decks : List DeckView) (o : Option ℕ) → found ≡ library_of idents decks
+    → idents ≡ l.idents → decks ≡ [] → o ≡ deck_of name found → option_to_list o ≡ option_to_list (deck_of name l)
+named_alone name l found idents decks o is same none at =
+    ap option_to_list (at ∙ ap (deck_of name) (is ∙ λ i. library_of (same i) (none i)))
 
 -- ---- each card once
 

@@ -1,10 +1,11 @@
 -- What a store keeps, and what a crash leaves of it, over several calls.
 use Rattle.upd_row_store.proofs.Common.{◌≡◌, ℕ, ◌≤◌, Result, Ok, Err, refl, sym, ap, ◌∙◌, subst, rules, arith, IsErrAnd, Fault, NoMemory, LibraryView, Rows}
-use Rattle.upd_row_store.proofs.Common.{MoreFailures, failures_after, failures_with}
+use Rattle.upd_row_store.proofs.Common.{MoreFailures, failures_after, failures_with, DeckView, IsSound, List, [], ◌∷◌, Shows, filter, is_among, length, not, part_of}
 use Rattle.std.proofs.Common.{◌⊎◌, OnErr, OnOk, inl, inr}
 use Rattle.upd_text.specs.Faults.{fault_at}
 use Rattle.upd_row_store.specs.declared.meaning.Meaning.{Ghosts}
-use Rattle.upd_row_store.specs.Keeping.{IsLater, Keeps, LeavesLoad, LeavesRead, LeavesWrite, Tries, reads_after}
+use Rattle.upd_core.specs.Sound.{IsWhole}
+use Rattle.upd_row_store.specs.Keeping.{IsLater, IsShown, Keeps, LeavesDeck, LeavesLoad, LeavesRead, LeavesWrite, Tries, most_reads, reads_after, reads_with}
 use Rattle.upd_row_store.proofs.KeepingLemmas.{lost_for_memory}
 
 -- out of memory counts none, and is no answer
@@ -15,6 +16,26 @@ memory_counts n (Err e) is = sym (ap (λ f. failures_with f.kind n) is)
 opens_none : {A : Type 0} (P : Type 0) (r : Result A Fault) → IsErrAnd r (λ e. e ≡ fault_at NoMemory 0) → OnOk r P
 opens_none P (Ok x) is = search rules
 opens_none P (Err e) is = tt
+
+-- ---- counts of decks
+
+reads_most : (r : Result LibraryView Fault) (old new : ℕ) → new ≡ reads_after r old → new ≤ most_reads r old
+reads_most (Ok l) old new is = grind (arith, is)
+reads_most (Err e) old new is = omega (arith, is)
+
+most_later : (r : Result LibraryView Fault) (old mid new : ℕ) → new ≤ most_reads r mid → mid ≤ old → new ≤ most_reads r old
+most_later (Ok l) old mid new less before = omega (arith, less, before)
+most_later (Err e) old mid new less before = omega (arith, less, before)
+
+none_kept : (ds : List DeckView) → length (filter (λ (d : DeckView). not (not (is_among [] d.ident))) ds) ≡ 0
+none_kept [] = refl
+none_kept (d ∷ ds) = none_kept ds
+
+-- the directory is read without a deck
+pub head_read : (l head : LibraryView) (old new : ℕ) → head ≡ part_of [] l → new ≡ reads_with head old → new ≤ old
+head_read l head old new is reads =
+    let none : length head.decks ≡ 0 = ap (λ (h : LibraryView). length h.decks) is ∙ none_kept l.decks in
+    grind (arith, reads, none)
 
 -- ---- counts of failures
 
@@ -94,6 +115,50 @@ module _ {S : Type 0} {meaning : Ghosts S} where
       by : (r : Result LibraryView Fault) → IsErrAnd r (λ e. e ≡ fault_at NoMemory 0) → decks_read_of new ≡ reads_after r (decks_read_of old)
       by (Ok x) is = search rules
       by (Err e) is = unread
+
+  -- what was shown before calls that read is shown after them
+  pub still_shown : (old mid : S) → Keeps meaning old mid → is_honest mid → is_open mid → (rows : Rows) → IsShown meaning rows old
+      → IsShown meaning rows mid
+  still_shown old mid keeps honest opened rows shown = subst (λ i. shows i rows) (sym (keeps.same honest opened)) shown
+
+  -- a load is a load of one deck
+  pub deck_of_load : (r : Result LibraryView Fault) (old new : S) → LeavesLoad meaning r old new → LeavesDeck meaning r old new
+  deck_of_load r old new left = record {
+    opens = left.opens;
+    same = left.same;
+    lost = left.lost;
+    failed = left.failed;
+    reads = λ honest l sound whole shown. reads_most r (decks_read_of old) (decks_read_of new) left.reads;
+  }
+
+  -- so is one after calls that read no deck of what the store showed
+  pub deck_after : (r : Result LibraryView Fault) (old mid new : S) → Keeps meaning old mid → failures_of mid ≡ failures_of old
+      → (is_honest new → (l : LibraryView) → IsSound l → IsWhole l → (is_open old → (rows : Rows) × IsShown meaning rows old × Shows rows l)
+      → decks_read_of mid ≤ decks_read_of old)
+      → LeavesLoad meaning r mid new → LeavesDeck meaning r old new
+  deck_after r old mid new same unfailed less left = record {
+    opens = left.opens;
+    same = keeps_keeps same left.same;
+    lost = left.lost;
+    failed = left.failed ∙ ap (failures_after r) unfailed;
+    reads = λ honest l sound whole shown.
+        most_later r (decks_read_of old) (decks_read_of mid) (decks_read_of new) (reads_most r _ _ left.reads) (less honest l sound whole shown);
+  }
+
+  -- and a read that failed
+  pub deck_failed : {A : Type 0} (f : Fault) (old new : S) → LeavesRead meaning {A = A} (Err f) old new → LeavesDeck meaning (Err f) old new
+  deck_failed f old new left = record {
+    opens = left.opens;
+    same = left.same;
+    lost = left.lost;
+    failed = left.failed;
+    reads = λ honest l sound whole shown. omega (arith, left.unread);
+  }
+
+  -- memory ran out
+  pub deck_lost : (r : Result LibraryView Fault) (old new : S) → IsErrAnd r (λ e. e ≡ fault_at NoMemory 0) → Keeps meaning old new
+      → failures_of new ≡ failures_of old → decks_read_of new ≡ decks_read_of old → LeavesDeck meaning r old new
+  deck_lost r old new is same unfailed unread = deck_of_load r old new (load_lost r old new is same unfailed unread)
 
   -- a write that was not carried out
   pub write_lost : {A : Type 0} (fits : Rows → Type 0) (write : Rows → Rows) (r : Result A Fault) (old new : S)

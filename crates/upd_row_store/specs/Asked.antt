@@ -1,11 +1,14 @@
 -- Which decks hold cards that a store is asked for.
-use Rattle.std.specs.Prelude.{◌≡◌, ℕ, ◌==◌, Bool, false, ◌&&◌, List, map}
+use Rattle.std.specs.Prelude.{◌≡◌, ℕ, ◌==◌, Bool, false, ◌&&◌, List, [], ◌∷◌, map}
 use Rattle.std.specs.List.{filter, list_any}
+use Rattle.std.specs.Option.{option_to_list}
 use Rattle.upd_text.specs.declared.card_ref.CardRef.{CardRef}
 use Rattle.upd_core.specs.Edits.{is_among}
 use Rattle.upd_core.specs.declared.ident.Ident.{Ident}
-use Rattle.upd_core.specs.Library.{DeckView, LibraryView, ref_of}
+use Rattle.upd_core.specs.Library.{DeckView, LibraryView, deck_of, ref_of}
 use Rattle.upd_records.specs.Rows.{CardRow, same_ref}
+use Rattle.upd_row_store.specs.declared.asked.DeckOf.{DeckOf}
+use Rattle.upd_row_store.specs.declared.asked.DeckOf.TheVariants.{Named, Holding}
 use Rattle.upd_row_store.specs.declared.asked.Homes.{Homes}
 
 -- whether a card is one of those that are asked for
@@ -28,6 +31,11 @@ are_in_yanks cards l = list_any (λ c. is_asked cards (ref_of l.idents c)) l.yan
 pub record AreHomes (cards : List CardRef) (l : LibraryView) (homes : Homes) : Type 0 where
   pub decks : homes.decks.items ≡ decks_with cards l
   pub yanks : homes.may_be_yanks ≡ false → are_in_yanks cards l ≡ false
+
+-- the age of the deck that is asked for, where there is one: the held deck of a name, or the deck that holds a card
+abbrev pub ages_asked : DeckOf → LibraryView → List ℕ
+ages_asked (Named name) l = option_to_list (deck_of name l)
+ages_asked (Holding card) l = decks_with (card ∷ []) l
 
 -- These ages, in whatever order, are those of the decks in the rows of the cards that are asked for, 0 for `YANK$$$` among them.
 abbrev pub AreDecksOf : List CardRef → List CardRow → List ℕ → Type 0

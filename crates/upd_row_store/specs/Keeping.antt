@@ -31,6 +31,11 @@ abbrev pub reads_after : Result LibraryView Fault → ℕ → ℕ
 reads_after (Ok l) reads = reads_with l reads
 reads_after (Err fault) reads = reads
 
+-- how many decks are read at most after a load that may read decks of which it answers only some: those of the answer
+abbrev pub most_reads : Result LibraryView Fault → ℕ → ℕ
+most_reads (Ok l) reads = reads + length l.decks
+most_reads (Err fault) reads = reads
+
 -- Want of memory, or a failure of the store: the faults after which an arrival counts as lost. They speak of no line, so they are at 0.
 pub data IsLost : Fault → Type 0 where
   OfMemory : (f : Fault) → f.kind ≡ fault.NoMemory → f.at ≡ 0 → IsLost f
@@ -96,6 +101,15 @@ module _ {S : Type 0} (meaning : Ghosts S) where
     pub lost : IfErr result IsLost
     pub failed : CountsFailure result old new
     pub reads : decks_read_of new ≡ reads_after result (decks_read_of old)
+
+  -- What the load of one deck leaves: the same, but that of a library that the store showed no more decks are read than are answered.
+  pub record LeavesDeck (result : Result LibraryView Fault) (old new : S) : Type 0 where
+    pub opens : OpensOk result new
+    pub same : Keeps old new
+    pub lost : IfErr result IsLost
+    pub failed : CountsFailure result old new
+    pub reads : is_honest new → (l : LibraryView) → IsSound l → IsWhole l → (is_open old → (rows : Rows) × IsShown rows old × Shows rows l)
+        → decks_read_of new ≤ most_reads result (decks_read_of old)
 
   -- What a write in one transaction leaves: after a fault what the store kept; a crash may leave it written.
   pub record LeavesWrite {A : Type 0} (fits : Rows → Type 0) (write : Rows → Rows) (result : Result A Fault) (old new : S) : Type 0 where

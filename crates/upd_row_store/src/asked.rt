@@ -14,7 +14,7 @@ ghost use Rattle.upd_row_store.specs.Tables.{AreByKey, AreRead, AreReadOf};
 
 use std::alloc::{AllocError, Global};
 use std::collections::BTreeSet;
-use upd_core::{CardRef, Library, Serial, States};
+use upd_core::{CardRef, Library, Name, Serial, States};
 use upd_records::{CardRow, same_ref};
 
 /// Where cards are.
@@ -24,6 +24,15 @@ pub struct Homes {
     pub decks: Vec<Serial>,
     /// Whether one of them may be in `YANK$$$`. A store that doesn't look there says yes.
     pub may_be_yanks: bool,
+}
+
+/// The deck that is asked for.
+#[derive(Debug, Drop)]
+pub enum DeckOf {
+    /// The held deck of this name.
+    Named(Name),
+    /// The deck that holds this card.
+    Holding(CardRef),
 }
 
 /// How many decks are read with one more library; it stops at the last value.

@@ -9,13 +9,16 @@ ghost use Rattle.upd_text.specs.Units.{Bytes};
 ghost use Rattle.upd_core.specs.Library.{LibraryView, empty};
 ghost use Rattle.upd_core.specs.Sound.{IsSound, IsWhole};
 ghost use Rattle.upd_core.specs.declared.ident.Ident.{Ident};
-ghost use Rattle.upd_records.specs.Rows.{CardRow, EntryRow, Rows, Shows, TargetRow};
+ghost use Rattle.upd_records.specs.Rows.{CardRow, EntryRow, IsSame, Rows, Shows, TargetRow};
+ghost use Rattle.upd_row_store.specs.Asked.{ages_asked};
+ghost use Rattle.upd_row_store.specs.declared.asked.DeckOf.TheVariants.{Named};
 ghost use Rattle.upd_row_store.specs.Assembling.{AreAgesOf, AreByAge, AreEntriesByCard, AreByPlace, AreRowsOf};
 ghost use Rattle.upd_row_store.specs.Assembling.{AreTargetsByCard, age_named, card_of_row, decks_from, decks_in, entries_of};
 ghost use Rattle.upd_row_store.specs.Assembling.{library_of, targets_of};
 ghost use Rattle.upd_core.specs.Parts.{part_of};
 ghost use Rattle.upd_row_store.specs.PartRows.{AreOfDistinctCards, part_rows};
 
+use crate::asked::{DeckOf, ages_of_decks, decks_by_age};
 use crate::by_card::rows_of;
 use crate::parts::{name_set, rows_of_part};
 use std::alloc::{AllocError, Global};
@@ -304,6 +307,47 @@ pub fn assembled_part(
     let entries = rows.entries.len() as u64;
     let part = rows_of_part(alloc, rows, ages)?;
     assembled_with_rest(alloc, part, cards, entries)
+}
+
+/// The age of the held deck of a name, where there is one, from idents that come in any order.
+pub fn deck_named(alloc: Global, idents: &[Ident], name: &Name) -> Result<Vec<Serial>, AllocError>
+    ensures { (tables : Rows) (l : LibraryView) → IsSound l → Shows tables l → IsSame idents.now tables.idents
+        → IfOk result (λ ages. ages.items ≡ ages_asked (Named name.now) l) }
+{
+    let idents = by_age(Vec::from_slice(alloc, idents)?);
+    let directory = library_of(alloc, idents, Vec::new(alloc));
+    match directory.deck_of(name) {
+        Some(age) => Vec::from_slice(alloc, &[age]),
+        None => Ok(Vec::new(alloc)),
+    }
+}
+
+/// The age of the deck that is asked for, where there is one, from rows that come in any order.
+fn ages_asked(alloc: Global, rows: &LibraryRows, asked: &DeckOf) -> Result<Vec<Serial>, AllocError>
+    ensures { (tables : Rows) (l : LibraryView) → IsSound l → Shows tables l → AreRowsOf tables rows.now
+        → IfOk result (λ ages. ages.items ≡ ages_asked asked.now l) }
+{
+    match asked {
+        DeckOf::Named(name) => deck_named(alloc, &rows.idents, name),
+        DeckOf::Holding(card) => {
+            let ages = ages_of_decks(alloc, &rows.cards, &[*card])?;
+            Ok(decks_by_age(ages))
+        }
+    }
+}
+
+/// The library of rows that come in any order, without the decks other than `YANK$$$` and the one that is asked for:
+/// what they have is counted. Memory alone can fail.
+pub fn assembled_deck(
+    alloc: Global,
+    rows: LibraryRows,
+    asked: &DeckOf,
+) -> Result<Library, AllocError>
+    ensures { (tables : Rows) (l : LibraryView) → IsSound l → IsWhole l → Shows tables l → AreRowsOf tables rows
+        → IfOk result (λ found. found ≡ part_of (ages_asked asked.now l) l) }
+{
+    let ages = ages_asked(alloc, &rows, asked)?;
+    assembled_part(alloc, rows, &ages)
 }
 
 /// A part of a library from its own rows: all idents and targets, the cards of `YANK$$$` and of the decks that are

@@ -11,9 +11,12 @@ pub mod store;
 
 pub use active::assembled_active;
 pub use asked::{
-    Homes, ages_of_decks, card_set, cards_once, decks_by_age, homes_by_age, keep_states,
+    DeckOf, Homes, ages_of_decks, card_set, cards_once, decks_by_age, homes_by_age, keep_states,
     reads_with, states_among, states_by_key,
 };
-pub use assemble::{age_of, assembled, assembled_part, assembled_with_rest, by_age, held_ages};
+pub use assemble::{
+    age_of, assembled, assembled_deck, assembled_part, assembled_with_rest, by_age, deck_named,
+    held_ages,
+};
 pub use meaning::Meaning;
 pub use store::RowStore;

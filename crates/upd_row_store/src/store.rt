@@ -4,14 +4,14 @@ ghost use Rattle.upd_core.specs.Actives.{actives_of};
 ghost use Rattle.upd_records.specs.Changes.{change_view};
 ghost use Rattle.upd_records.specs.Rows.{Rows, ShowsStates};
 ghost use Rattle.upd_records.specs.Fits.{AllFit};
-ghost use Rattle.upd_row_store.specs.Asked.{AreHomes, decks_with};
+ghost use Rattle.upd_row_store.specs.Asked.{AreHomes, ages_asked, decks_with};
 ghost use Rattle.upd_row_store.specs.Assembling.{AreRowsOf};
-ghost use Rattle.upd_row_store.specs.Keeping.{FindsLibrary, FindsRows, IsShown, LeavesLoad, LeavesRead, LeavesWrite};
+ghost use Rattle.upd_row_store.specs.Keeping.{FindsLibrary, FindsRows, IsShown, LeavesDeck, LeavesLoad, LeavesRead, LeavesWrite};
 ghost use Rattle.upd_row_store.specs.Movable.{AllMoveListed};
 ghost use Rattle.upd_core.specs.Parts.{part_of};
 ghost use Rattle.upd_row_store.specs.Tables.{AreByKey, AreRead, AreReadOf, committed, mark_at, run_at, settled_to};
 
-use crate::asked::{Homes, states_among};
+use crate::asked::{DeckOf, Homes, states_among};
 use crate::meaning::Meaning;
 use std::alloc::Global;
 use std::collections::BTreeMap;
@@ -41,7 +41,28 @@ pub trait RowStore: Meaning {
             (λ l rows found. found.items ≡ decks_with cards.now l) }
         ensures leaves { LeavesRead Self.Meaning result self.old self.new };
 
-    /// The same decks, and whether one of these cards may be in `YANK$$$`: false only where none is.
+    /// The directory, `YANK$$$` and the deck that is asked for, if there is one; the rest counts what the others have.
+    fn load_deck_of(&mut self, alloc: Global, asked: &DeckOf) -> Result<Library, Fault>
+        ensures found { FindsLibrary Self.Meaning result self.old self.new
+            (λ l rows found. found ≡ part_of (ages_asked asked.now l) l) }
+        ensures leaves { LeavesDeck Self.Meaning result self.old self.new }
+    {
+        match asked {
+            DeckOf::Named(name) => {
+                let head = self.load_decks(alloc, &[])?;
+                match head.deck_of(name) {
+                    Some(deck) => self.load_decks(alloc, &[deck]),
+                    None => Ok(head),
+                }
+            }
+            DeckOf::Holding(card) => {
+                let decks = self.decks_of(alloc, &[*card])?;
+                self.load_decks(alloc, &decks)
+            }
+        }
+    }
+
+    /// The decks of `decks_of`, and whether one of these cards may be in `YANK$$$`: false only where none is.
     fn homes_of(&mut self, alloc: Global, cards: &[CardRef]) -> Result<Homes, Fault>
         ensures found { FindsLibrary Self.Meaning result self.old self.new
             (λ l rows found. AreHomes cards.now l found) }
@@ -135,7 +156,7 @@ pub trait RowStore: Meaning {
     fn failures(&self) -> u64
         ensures { result ≡ Self.failures_of self.now };
 
-    /// How many decks `load` and `load_decks` have read, without `YANK$$$`, up to the greatest value.
+    /// How many decks `load`, `load_decks` and `load_deck_of` have read, without `YANK$$$`, up to the greatest value.
     fn decks_read(&self) -> u64
         ensures { result ≡ Self.decks_read_of self.now };
 
