@@ -6,14 +6,20 @@ use Rattle.upd_memory.proofs.Common.{Decides-eqb, drop_more, map-append, by_name
 use Rattle.upd_memory.proofs.Common.{same_trans, Change, change_view, done, done_all, moved_row, AllFit, CanMove, Fits, CardRow, CountRow, EntryRow, IsSame}
 use Rattle.upd_memory.proofs.Common.{Rows, same_ref, state_rows, same_length, any_same, count_pair, Agrees, AreCards, AreEntries, AreHomes, AreStatuses}
 use Rattle.upd_memory.proofs.Common.{cards_at, entries_at, is_home, placed_row, filter_twice}
-use Rattle.std.proofs.Common.{◌-◌, OnOk, IfOk}
-use Rattle.std.specs.Prelude.{pos, negsuc, ◌^◌, ◌≤◌}
+use Rattle.std.proofs.Common.{◌-◌, zero, suc, OnOk, IfOk}
+use Rattle.std.specs.Prelude.{pos, negsuc, ◌^◌, ◌≤◌, OnSome}
 use Rattle.std.proofs.Math.Nat.{min-eq_left}
 use Rattle.std.proofs.lemmas.Option.{same_Some}
 use Rattle.upd_records.proofs.EffectLemmas.{any_append}
 use Rattle.upd_records.specs.Changes.{shifted}
 use Rattle.upd_records.specs.Rows.{count_rows}
 use Rattle.upd_row_store.proofs.AskedLemmas.{filter_made}
+use Rattle.std.proofs.Common.{take}
+use Rattle.std.proofs.lemmas.List.{take-append-drop}
+use Rattle.upd_shifts.proofs.MoveLemmas.{card_stays, deck_stays, done_parts, fits_parts, other_stays}
+use Rattle.upd_shifts.proofs.ShiftLemmas.{all_placed}
+use Rattle.upd_shifts.specs.declared.moves.Move.{Move}
+use Rattle.upd_shifts.specs.Shifts.{moved_all, moved_pos}
 use Rattle.upd_memory.specs.declared.mirror.Mirror.{Mirror}
 use Rattle.upd_memory.specs.RowsByKey.{moved_place}
 use Rattle.upd_memory.proofs.KeyedLemmas.{any_gone, any_mapped, any_stays, apart_stay, filter_mapped, one_more, some_gone}
@@ -28,6 +34,18 @@ when_ok (Err e) o x is some holds = absurd (let clash : None ≡ Some x = sym is
 pub ok_value : {A E : Type 0} (P : A → Type 0) (r : Result A E) (o : Option A) (x : A) → o ≡ result_ok r → o ≡ Some x → IfOk r P → P x
 ok_value P (Ok y) o x is some holds = subst P (let same : Some y ≡ Some x = sym is ∙ some in same_Some y x same) holds
 ok_value P (Err e) o x is some holds = absurd (let clash : None ≡ Some x = sym is ∙ some in cc)
+
+-- what a call ensures where it succeeds, by other words
+pub on_success : {X P Q : Type 0} (o : Option X) → OnSome o P → (P → Q) → OnSome o Q
+on_success None holds f = tt
+on_success (Some x) holds f = f holds
+
+-- a list that was changed in place up to its end
+pub all_over : {A : Type 0} (f : A → A) (k : ℕ) (xs : List A) → length xs ≤ k → map f (take k xs) ++ drop k xs ≡ map f xs
+all_over f zero [] le = refl
+all_over f (suc k) [] le = refl
+all_over f zero (x ∷ xs) le = absurd (omega arith)
+all_over f (suc k) (x ∷ xs) le = ap (λ ys. f x ∷ ys) (all_over f k xs (omega arith))
 
 -- ---- the decks of cards
 
@@ -110,76 +128,48 @@ row_fits deck from by r can = go ((r.deck == deck) && nat_le from r.pos) can
     go true can = ap (λ p. record r { pos = p }) (place_fits by r.pos (can refl))
     go false can = refl
 
--- of the rows of one deck each can be moved
-deck_fits : (test : CardRow → Bool) (deck from : ℕ) (by : ℤ) (rows : List CardRow)
-    → AllByRecursion (λ r. IsTrue ((r.deck == deck) && nat_le from r.pos) → CanMove by r.pos) rows
-    → map (placed_row deck from by) (filter test rows) ≡ map (moved_row deck from by) (filter test rows)
-deck_fits test deck from by [] all = refl
-deck_fits test deck from by (r ∷ rows) all = go (test r) (deck_fits test deck from by rows all.1)
-  where
-    go : (b : Bool) → map (placed_row deck from by) (filter test rows) ≡ map (moved_row deck from by) (filter test rows)
-        → map (placed_row deck from by) (cond b (r ∷ filter test rows) (filter test rows))
-        ≡ map (moved_row deck from by) (cond b (r ∷ filter test rows) (filter test rows))
-    go true rest = λ i. row_fits deck from by r all.0 i ∷ rest i
-    go false rest = rest
+-- ---- moves of a deck at once
 
-same_deck : (deck from : ℕ) (by : ℤ) (r : CardRow) → (moved_row deck from by r).deck ≡ r.deck
-same_deck deck from by r = go ((r.deck == deck) && nat_le from r.pos)
-  where
-    go : (b : Bool) → (if b then record r { pos = shifted by r.pos } else r).deck ≡ r.deck
-    go true = refl
-    go false = refl
+module _ (deck : ℕ) (ms : List Move) where
+  -- the rows of another deck stay
+  other_deck : (d : ℕ) (rows : List CardRow) → (deck == d) ≡ false
+      → map (moved_all deck ms) (filter (λ r. r.deck == d) rows) ≡ filter (λ r. r.deck == d) rows
+  other_deck d [] other = refl
+  other_deck d (r ∷ rows) other = go (r.deck == d) refl (other_deck d rows other)
+    where
+      apart : (r.deck == d) ≡ true → (r.deck == deck) ≡ false
+      apart is = let same : r.deck ≡ d = (Decides-eqb r.deck d).0 is in ap (λ x. x == deck) same ∙ flip d deck ∙ other
+        where
+          flip : (a b : ℕ) → (a == b) ≡ (b == a)
+          flip a b = grind arith
 
-same_card : (deck from : ℕ) (by : ℤ) (r : CardRow) → (moved_row deck from by r).card ≡ r.card
-same_card deck from by r = go ((r.deck == deck) && nat_le from r.pos)
-  where
-    go : (b : Bool) → (if b then record r { pos = shifted by r.pos } else r).card ≡ r.card
-    go true = refl
-    go false = refl
+      go : (b : Bool) → (r.deck == d) ≡ b → map (moved_all deck ms) (filter (λ x. x.deck == d) rows) ≡ filter (λ x. x.deck == d) rows
+          → map (moved_all deck ms) (cond b (r ∷ filter (λ x. x.deck == d) rows) (filter (λ x. x.deck == d) rows))
+          ≡ cond b (r ∷ filter (λ x. x.deck == d) rows) (filter (λ x. x.deck == d) rows)
+      go true is rest = λ i. other_stays deck ms r (apart is) i ∷ rest i
+      go false is rest = rest
 
--- the rows of another deck stay
-other_deck : (deck from d : ℕ) (by : ℤ) (rows : List CardRow) → (deck == d) ≡ false
-    → map (moved_row deck from by) (filter (λ r. r.deck == d) rows) ≡ filter (λ r. r.deck == d) rows
-other_deck deck from d by [] other = refl
-other_deck deck from d by (r ∷ rows) other = go (r.deck == d) refl (other_deck deck from d by rows other)
-  where
-    still : (a b : Bool) → a ≡ false → (if a && b then record r { pos = shifted by r.pos } else r) ≡ r
-    still true b e = absurd (cc)
-    still false b e = refl
+  pub cards_placed : {Z : Type 0} (old new : BTreeMap ℕ (Vec CardRow Z)) (rows : List CardRow)
+      → ((d : ℕ) → cards_at new d ≡ cond (deck == d) (map (moved_all deck ms) (cards_at old d)) (cards_at old d))
+      → AreCards old rows → AreCards new (map (moved_all deck ms) rows)
+  cards_placed old new rows put are d =
+      subst (λ xs. IsSame xs (filter (λ r. r.deck == d) (map (moved_all deck ms) rows))) (sym (put d))
+      (subst (IsSame (cond (deck == d) (map (moved_all deck ms) (cards_at old d)) (cards_at old d)))
+      (sym (filter_mapped (λ r. r.deck == d) (moved_all deck ms) rows (λ r. ap (λ x. x == d) (deck_stays deck ms r)))) (go (deck == d) refl))
+    where
+      go : (b : Bool) → (deck == d) ≡ b → IsSame (cond b (map (moved_all deck ms) (cards_at old d)) (cards_at old d))
+          (map (moved_all deck ms) (filter (λ r. r.deck == d) rows))
+      go true e = same_map (moved_all deck ms) (are d)
+      go false e = subst (IsSame (cards_at old d)) (sym (other_deck d rows e)) (are d)
 
-    apart : (r.deck == d) ≡ true → (r.deck == deck) ≡ false
-    apart is = let same : r.deck ≡ d = (Decides-eqb r.deck d).0 is in ap (λ x. x == deck) same ∙ flip d deck ∙ other
-      where
-        flip : (a b : ℕ) → (a == b) ≡ (b == a)
-        flip a b = grind arith
+  pub homes_placed : (homes : BTreeMap CardRef ℕ) (rows : List CardRow) → AreHomes homes rows → AreHomes homes (map (moved_all deck ms) rows)
+  homes_placed homes rows are c d =
+      are c d ∙ sym (any_mapped (λ x. (x.deck == d) && same_ref c x.card) (moved_all deck ms) rows
+      (λ r i. (deck_stays deck ms r i == d) && same_ref c (card_stays deck ms r i)))
 
-    go : (b : Bool) → (r.deck == d) ≡ b
-        → map (moved_row deck from by) (filter (λ x. x.deck == d) rows) ≡ filter (λ x. x.deck == d) rows
-        → map (moved_row deck from by) (cond b (r ∷ filter (λ x. x.deck == d) rows) (filter (λ x. x.deck == d) rows))
-        ≡ cond b (r ∷ filter (λ x. x.deck == d) rows) (filter (λ x. x.deck == d) rows)
-    go true is rest = λ i. still (r.deck == deck) (nat_le from r.pos) (apart is) i ∷ rest i
-    go false is rest = rest
-
-pub cards_moved : {Z : Type 0} (old new : BTreeMap ℕ (Vec CardRow Z)) (deck from : ℕ) (by : ℤ) (rows : List CardRow)
-    → ((d : ℕ) → cards_at new d ≡ cond (deck == d) (map (placed_row deck from by) (cards_at old d)) (cards_at old d))
-    → AllByRecursion (λ r. IsTrue ((r.deck == deck) && nat_le from r.pos) → CanMove by r.pos) rows
-    → AreCards old rows → AreCards new (map (moved_row deck from by) rows)
-cards_moved old new deck from by rows put fit are d =
-    subst (λ xs. IsSame xs (filter (λ r. r.deck == d) (map (moved_row deck from by) rows))) (sym (put d))
-    (subst (IsSame (cond (deck == d) (map (placed_row deck from by) (cards_at old d)) (cards_at old d)))
-    (sym (filter_mapped (λ r. r.deck == d) (moved_row deck from by) rows (λ r. ap (λ x. x == d) (same_deck deck from by r)))) (go (deck == d) refl))
-  where
-    go : (b : Bool) → (deck == d) ≡ b → IsSame (cond b (map (placed_row deck from by) (cards_at old d)) (cards_at old d))
-        (map (moved_row deck from by) (filter (λ r. r.deck == d) rows))
-    go true e = subst (IsSame (map (placed_row deck from by) (cards_at old d))) (deck_fits (λ r. r.deck == d) deck from by rows fit)
-        (same_map (placed_row deck from by) (are d))
-    go false e = subst (IsSame (cards_at old d)) (sym (other_deck deck from d by rows e)) (are d)
-
-pub homes_moved : (homes : BTreeMap CardRef ℕ) (deck from : ℕ) (by : ℤ) (rows : List CardRow) → AreHomes homes rows
-    → AreHomes homes (map (moved_row deck from by) rows)
-homes_moved homes deck from by rows are c d =
-    are c d ∙ sym (any_mapped (λ x. (x.deck == d) && same_ref c x.card) (moved_row deck from by) rows
-    (λ r i. (same_deck deck from by r i == d) && same_ref c (same_card deck from by r i)))
+  -- a card moves by the pieces of moves
+  pub row_placed : (to : ℕ) (r : CardRow) → (r.deck == deck) ≡ true → to ≡ moved_pos ms r.pos → record r { pos = to } ≡ moved_all deck ms r
+  row_placed to r here is = ap (λ p. record r { pos = p }) is ∙ sym (all_placed deck 0 ms r here)
 
 -- ---- entries
 
@@ -266,6 +256,15 @@ next_change cs i d x rows within read fit =
     let split : drop i cs ≡ x ∷ drop (i + 1) cs = drop_more cs i d within ∙ ap (λ y. y ∷ drop (i + 1) cs) (sym read) in
     let fits : AllFit (map change_view (x ∷ drop (i + 1) cs)) rows = rw split at fit in
     (fits.0, fits.1, ap (λ ds. done_all (map change_view ds) rows) (sym split))
+
+pub next_part : (cs : List Change) (n : ℕ) (rows : Rows) → AllFit (map change_view cs) rows
+    → AllFit (map change_view (take n cs)) rows × AllFit (map change_view (drop n cs)) (done_all (map change_view (take n cs)) rows)
+    × (done_all (map change_view (drop n cs)) (done_all (map change_view (take n cs)) rows) ≡ done_all (map change_view cs) rows)
+next_part cs n rows fit =
+    let split : map change_view cs ≡ map change_view (take n cs) ++ map change_view (drop n cs) =
+    ap (map change_view) (sym (take-append-drop n cs)) ∙ map-append change_view (take n cs) (drop n cs) in
+    let fits = fits_parts (map change_view (take n cs)) (map change_view (drop n cs)) rows (subst (λ ds. AllFit ds rows) split fit) in
+    (fits.0, fits.1, done_parts (map change_view (take n cs)) (map change_view (drop n cs)) rows ∙ ap (λ ds. done_all ds rows) (sym split))
 
 -- ---- a mirror of rows that were read
 

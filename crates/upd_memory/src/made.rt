@@ -82,6 +82,15 @@ impl Mirror {
     }
 }
 
+/// Rows by deck and place: each is then added as the last of its deck.
+fn by_place(rows: Vec<CardRow>) -> Vec<CardRow>
+    ensures { IsSame result.items rows.items }
+{
+    let mut rows = rows;
+    rows.sort_unstable_by_key(|row| (row.deck, row.pos));
+    rows
+}
+
 /// A mirror of rows that were read; none where memory runs out, or where a card has two rows or two statuses.
 fn of_rows(alloc: Global, rows: LibraryRows, states: States) -> Option<Mirror>
     ensures { (tables : Rows) → AreRowsOf tables rows → AreRead tables states → AgreesIfAny result tables }
@@ -93,6 +102,7 @@ fn of_rows(alloc: Global, rows: LibraryRows, states: States) -> Option<Mirror>
         targets,
     } = rows;
     let States { states, counts } = states;
+    let cards = by_place(cards);
     let mut mirror = Mirror::without_cards(alloc, idents, targets, counts);
     mirror.add_cards(&cards)?;
     mirror.add_entries(alloc, &entries)?;

@@ -3,21 +3,23 @@
 ghost use Rattle.std.specs.Prelude.{◌≡◌, ◌==◌, ◌∷◌, ◌++◌, [], not, map, OnSome};
 ghost use Rattle.std.specs.List.{filter};
 ghost use Rattle.upd_records.specs.Changes.{change_view, done, done_all};
-ghost use Rattle.upd_records.specs.Changes.{CardGone, CardNew, CardsMoved, CountNow};
+ghost use Rattle.upd_records.specs.Changes.{CardGone, CardNew, CountNow};
 ghost use Rattle.upd_records.specs.Changes.{EntriesGone, EntryNew, IdentNew, IdentPurged};
 ghost use Rattle.upd_records.specs.Changes.{StatusNow, TargetNew, TargetsGone};
 ghost use Rattle.upd_records.specs.Fits.{AllFit, Fits};
 ghost use Rattle.upd_records.specs.Rows.{Rows, same_ref};
+ghost use Rattle.upd_shifts.specs.Shifts.{as_change};
 ghost use Rattle.upd_memory.specs.Mirrored.{Agrees, AgreesIfAny};
 
 use crate::tables::{
     add_card, add_entry, drop_at_home, drop_count, drop_entries, drop_home, drop_status, home_of,
-    move_cards_of, put_home, put_status,
+    place_cards_of, put_home, put_status,
 };
 use std::alloc::Global;
 use std::collections::BTreeMap;
 use upd_core::{CardRef, Change, Entry, Ident, Serial, Target};
 use upd_records::{CardRow, EntryRow, TargetRow, drop_targets, purge_ident};
+use upd_shifts::{Move, moves_ahead, moves_of, pieces_of};
 
 /// The rows of idents, cards, entries and targets, the statuses and the counts.
 pub struct Mirror {
@@ -84,11 +86,13 @@ impl Mirror {
         drop_status(&mut self.statuses, card);
     }
 
-    fn shift_cards(&mut self, deck: Serial, from: u32, by: &i64)
-        ensures { (rows : Rows) → Agrees self.old rows → Fits (CardsMoved deck from by.now) rows
-            → Agrees self.new (done (CardsMoved deck from by.now) rows) }
+    /// Makes moves of the cards of a deck, each card at once.
+    fn move_deck(&mut self, alloc: Global, deck: Serial, moves: &[Move]) -> Option<()>
+        ensures { OnSome result ((rows : Rows) → Agrees self.old rows
+            → Agrees self.new (done_all (map (as_change deck) moves.now) rows)) }
     {
-        move_cards_of(&mut self.decks, deck, from, by);
+        let pieces = pieces_of(alloc, moves)?;
+        place_cards_of(&mut self.decks, deck, &pieces)
     }
 
     pub(crate) fn add_entry(&mut self, alloc: Global, row: EntryRow) -> Option<()>
@@ -165,7 +169,14 @@ impl Mirror {
                 })?
             }
             Change::CardGone(card) => self.take_card(card),
-            Change::CardsMoved { deck, from, by } => self.shift_cards(*deck, *from, by),
+            Change::CardsMoved { deck, from, by } => self.move_deck(
+                alloc,
+                *deck,
+                &[Move {
+                    from: *from,
+                    by: *by,
+                }],
+            )?,
             Change::EntryNew { card, ord, entry } => self.add_entry(
                 alloc,
                 EntryRow {
@@ -187,13 +198,41 @@ impl Mirror {
         Some(())
     }
 
-    /// Carries out changes in order; where one can't be carried out, they may be done in part.
-    fn carry_out_all(&mut self, alloc: Global, changes: &[Change]) -> Option<()>
+    /// Carries out changes in order, one after another; where one can't be carried out, they may be done in part.
+    fn carry_out_each(&mut self, alloc: Global, changes: &[Change]) -> Option<()>
         ensures { OnSome result ((rows : Rows) → Agrees self.old rows → AllFit (map change_view changes.now) rows
             → Agrees self.new (done_all (map change_view changes.now) rows)) }
     {
         for change in changes {
             self.carry_out(alloc, change)?;
+        }
+        Some(())
+    }
+
+    /// Carries out changes in order: at once, where they are moves of one deck.
+    fn carry_out_part(&mut self, alloc: Global, changes: &[Change]) -> Option<()>
+        ensures { OnSome result ((rows : Rows) → Agrees self.old rows → AllFit (map change_view changes.now) rows
+            → Agrees self.new (done_all (map change_view changes.now) rows)) }
+    {
+        match changes.first() {
+            Some(Change::CardsMoved { deck, .. }) => {
+                let moves = moves_of(alloc, *deck, changes)?;
+                self.move_deck(alloc, *deck, &moves)
+            }
+            _ => self.carry_out_each(alloc, changes),
+        }
+    }
+
+    /// Carries out changes in order; where one can't be carried out, they may be done in part.
+    fn carry_out_all(&mut self, alloc: Global, changes: &[Change]) -> Option<()>
+        ensures { OnSome result ((rows : Rows) → Agrees self.old rows → AllFit (map change_view changes.now) rows
+            → Agrees self.new (done_all (map change_view changes.now) rows)) }
+    {
+        let mut rest = changes;
+        while !rest.is_empty() {
+            let (part, after) = rest.split_at(moves_ahead(rest));
+            self.carry_out_part(alloc, part)?;
+            rest = after;
         }
         Some(())
     }

@@ -1,20 +1,23 @@
 //! Rows in memory, one table at a time.
 
 ghost use Rattle.std.specs.Prelude.{◌≡◌, ◌==◌, ◌∷◌, ◌++◌, ℕ, [], None};
-ghost use Rattle.std.specs.Prelude.{Some, false, not, if◌then◌else◌, map, length, OnOk};
+ghost use Rattle.std.specs.Prelude.{Some, false, not, if◌then◌else◌, List, map, length, OnOk, OnSome};
 ghost use Rattle.std.specs.BTreeMap.{get};
-ghost use Rattle.std.specs.List.{filter};
+ghost use Rattle.std.specs.List.{AllByRecursion, filter};
 ghost use Rattle.std.specs.Ordering.{is_eq};
 ghost use Rattle.upd_text.specs.Order.{by_name};
 ghost use Rattle.upd_text.specs.declared.card_ref.CardRef.{CardRef};
 ghost use Rattle.upd_core.specs.Targets.{is_same};
 ghost use Rattle.upd_records.specs.Rows.{IsSame, same_ref};
+ghost use Rattle.upd_shifts.specs.declared.moves.Move.{Move};
+ghost use Rattle.upd_shifts.specs.Shifts.{IsPiece, moved_all};
 ghost use Rattle.upd_memory.specs.RowsByKey.{cards_at, entries_at, is_home, moved_place, placed_row};
 
 use std::alloc::{AllocError, Global};
 use std::collections::BTreeMap;
 use upd_core::{CardRef, Serial, Target};
 use upd_records::{CardRow, EntryRow, drop_card};
+use upd_shifts::{Piece, place_by};
 
 // ---- counts, in any order
 
@@ -87,18 +90,38 @@ pub(crate) fn move_cards(cards: &mut [CardRow], deck: Serial, from: u32, by: &i6
     }
 }
 
-/// Moves the cards of a deck, of all decks, that are at a place or after it.
-pub(crate) fn move_cards_of(
+/// Moves a card where it is in a deck, by the pieces of the deck's moves.
+fn place_card(row: &mut CardRow, deck: Serial, pieces: &[Piece]) -> Option<()>
+    ensures { OnSome result ((moves : List Move) → AllByRecursion (IsPiece moves) pieces.now → row.new ≡ moved_all deck moves row.old) }
+{
+    if row.deck == deck {
+        row.pos = place_by(pieces, row.pos)?;
+    }
+    Some(())
+}
+
+/// Moves the cards of a deck, by the pieces of its moves.
+fn place_cards(cards: &mut [CardRow], deck: Serial, pieces: &[Piece]) -> Option<()>
+    ensures { OnSome result ((moves : List Move) → AllByRecursion (IsPiece moves) pieces.now → cards.new ≡ map (moved_all deck moves) cards.old) }
+{
+    for row in cards.iter_mut() {
+        place_card(row, deck, pieces)?;
+    }
+    Some(())
+}
+
+/// Moves the cards of a deck, of all decks, by the pieces of its moves.
+pub(crate) fn place_cards_of(
     decks: &mut BTreeMap<Serial, Vec<CardRow>>,
     deck: Serial,
-    from: u32,
-    by: &i64,
-)
-    ensures { (d : ℕ) → cards_at decks.new d ≡ (if deck == d
-        then map (placed_row deck from by.now) (cards_at decks.old d) else cards_at decks.old d) }
+    pieces: &[Piece],
+) -> Option<()>
+    ensures { OnSome result ((moves : List Move) → AllByRecursion (IsPiece moves) pieces.now → (d : ℕ) → cards_at decks.new d
+        ≡ (if deck == d then map (moved_all deck moves) (cards_at decks.old d) else cards_at decks.old d)) }
 {
-    if let Some(cards) = decks.get_mut(&deck) {
-        move_cards(cards, deck, from, by);
+    match decks.get_mut(&deck) {
+        Some(cards) => place_cards(cards, deck, pieces),
+        None => Some(()),
     }
 }
 

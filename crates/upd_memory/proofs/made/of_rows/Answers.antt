@@ -1,4 +1,4 @@
-use Rattle.upd_memory.proofs.Common.{[], refl, subst, map, sym, same_of, IsSame, count_pair, state_row}
+use Rattle.upd_memory.proofs.Common.{[], refl, subst, map, sym, same_of, same_trans, IsSame, count_pair, state_row}
 use Rattle.upd_memory.proofs.MirrorLemmas.{agrees_same}
 use Rattle.upd_memory.proofs.StatusRowLemmas.{states_read}
 use Rattle.upd_memory.proofs.made.of_rows.Goals as goal
@@ -10,7 +10,7 @@ returns c = λ tables rows_are states_are.
     let two = c.in_ok-add_entries.ensures (record tables { cards = c.deref.result.now; entries = []; states = [] }) one in
     let three = c.in_ok-add_states.ensures (record tables { cards = c.deref.result.now; entries = c.deref-2.result.now; states = [] }) two in
     agrees_same c.add_states.new.self _ tables three (same_of tables.idents tables.idents refl)
-    (subst (λ xs. IsSame xs tables.cards) (sym c.deref.ensures.value) rows_are.cards)
+    (subst (λ xs. IsSame xs tables.cards) (sym c.deref.ensures.value) (same_trans c.by_place-cards.ensures rows_are.cards))
     (subst (λ xs. IsSame xs tables.entries) (sym c.deref-2.ensures.value) rows_are.entries)
     (same_of tables.targets tables.targets refl)
     (subst (λ xs. IsSame (map state_row xs) tables.states) (sym c.deref-3.ensures.value)

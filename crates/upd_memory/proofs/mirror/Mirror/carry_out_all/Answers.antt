@@ -1,21 +1,21 @@
-use Rattle.upd_memory.proofs.Common.{refl, sym, ap, ◌∙◌, subst, map, arith, change_view, done, done_all, Agrees}
-use Rattle.std.proofs.lemmas.List.{drop_all}
-use Rattle.upd_memory.proofs.MirrorLemmas.{next_change}
+use Rattle.upd_memory.proofs.Common.{List, map, take, sym, ap, subst, ◌∙◌, Change, change_view, done_all, AllFit, Agrees}
+use Rattle.upd_memory.proofs.MirrorLemmas.{next_part}
 use Rattle.upd_memory.proofs.mirror.Mirror.carry_out_all.Goals as goal
 
-pub loop-change-init : goal.loop-change-init
-loop-change-init c = λ rows are fit. (rows, (are, fit, refl))
-
-pub loop-change-preserved : goal.loop-change-preserved
-loop-change-preserved c = λ rows are fit.
-    let now = c.loop-change.invariant rows are fit in
-    let mid = now.0 in
-    let change = c.change-item.result in
-    let next = next_change c.args.changes.now c.loop-change.change-index _ change mid c.loop-change-test.true c.change-item.is now.1.1 in
-    (done (change_view change) mid, (c.in_ok-carry_out.ensures mid now.1.0 next.0, next.1, next.2 ∙ now.1.2))
-
-pub returns : goal.returns
-returns c = λ rows are fit.
-    let now = c.loop-change.invariant rows are fit in
-    let left = drop_all c.loop-change.change-index c.args.changes.now (omega (arith, c.loop-change-test.false)) in
-    subst (Agrees c.loop-change.self) (sym (ap (λ cs. done_all (map change_view cs) now.0) left) ∙ now.1.2) now.1.0
+pub loop-rest-preserved : goal.loop-rest-preserved
+loop-rest-preserved c = λ rows are fit.
+    let now = c.loop-rest.invariant rows are fit in
+    let part = take c.moves_ahead.result c.loop-rest.rest.now in
+    let next = next_part c.loop-rest.rest.now c.moves_ahead.result now.0 now.1.1 in
+    let front = c.split_at.ensures.front in
+    let back = c.split_at.ensures.back in
+    let mid = done_all (map change_view part) now.0 in
+    let fits = subst (λ (cs : List Change). AllFit (map change_view cs) now.0) (sym front) next.0 in (
+      mid,
+      (
+        subst (λ (cs : List Change). Agrees c.carry_out_part.new.self (done_all (map change_view cs) now.0)) front
+            (c.in_ok-carry_out_part.ensures now.0 now.1.0 fits),
+        subst (λ (cs : List Change). AllFit (map change_view cs) mid) (sym back) next.1,
+        ap (λ (cs : List Change). done_all (map change_view cs) mid) back ∙ next.2 ∙ now.1.2,
+      ),
+    )

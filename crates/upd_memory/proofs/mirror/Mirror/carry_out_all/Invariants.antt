@@ -1,9 +1,12 @@
-use Rattle.upd_memory.proofs.Common.{◌≡◌, map, drop, change_view, done_all, AllFit, Rows, Agrees}
+use Rattle.upd_memory.proofs.Common.{◌≡◌, length, map, change_view, done_all, AllFit, Rows, Agrees}
 use Rattle.upd_memory.proofs.mirror.Mirror.carry_out_all.Given as goal
 
 -- some tables agree that the rest of the changes leads to where all lead
-abbrev pub invariant-loop-change : goal.invariant-loop-change
-invariant-loop-change l =
+abbrev pub invariant-loop-rest : goal.invariant-loop-rest
+invariant-loop-rest l =
     (rows : Rows) → Agrees l.initial.self rows → AllFit (map change_view l.changes) rows → (mid : Rows) × (Agrees l.self mid
-    × AllFit (map change_view (drop l.change-index l.changes)) mid
-    × (done_all (map change_view (drop l.change-index l.changes)) mid ≡ done_all (map change_view l.changes) rows))
+    × AllFit (map change_view l.rest) mid
+    × (done_all (map change_view l.rest) mid ≡ done_all (map change_view l.changes) rows))
+
+abbrev pub decreases-loop-rest : goal.decreases-loop-rest
+decreases-loop-rest l = length l.rest
