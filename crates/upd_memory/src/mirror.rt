@@ -238,12 +238,32 @@ impl Mirror {
     }
 }
 
-/// A mirror after changes; none where there was none, or where they can't be carried out.
+/// The rows of a deck are walked for each card that goes. From so many rows a card on it costs less to read all rows again.
+const WALKED_A_CARD: usize = 800;
+
+/// Whether so many cards go, one after another, that it costs less to read the rows again.
+fn go_often(mirror: &Mirror, changes: &[Change]) -> bool {
+    let mut walked: usize = 0;
+    for change in changes {
+        if let Change::CardGone(card) = change
+            && let Some(deck) = home_of(&mirror.homes, card)
+            && let Some(rows) = mirror.decks.get(&deck)
+        {
+            walked = walked.saturating_add(rows.len());
+        }
+    }
+    walked > mirror.homes.len().saturating_mul(WALKED_A_CARD)
+}
+
+/// A mirror after changes; none where there was none, where they can't be carried out, or where it isn't worth it.
 pub(crate) fn carried(alloc: Global, mirror: Option<Mirror>, changes: &[Change]) -> Option<Mirror>
     ensures { (rows : Rows) → AgreesIfAny mirror rows → AllFit (map change_view changes.now) rows
         → AgreesIfAny result (done_all (map change_view changes.now) rows) }
 {
     let mut mirror = mirror?;
+    if go_often(&mirror, changes) {
+        return None;
+    }
     mirror.carry_out_all(alloc, changes)?;
     Some(mirror)
 }

@@ -169,6 +169,38 @@ impl Mirror {
     }
 }
 
+/// How many cards of a deck are at a place or after it.
+fn cards_behind(decks: &BTreeMap<Serial, Vec<CardRow>>, deck: &Serial, from: u32) -> usize {
+    match decks.get(deck) {
+        Some(rows) => rows.len().saturating_sub(from as usize),
+        None => 0,
+    }
+}
+
+/// How many cards move at these changes, each as often as a change moves it.
+fn cards_moved(decks: &BTreeMap<Serial, Vec<CardRow>>, changes: &[Change]) -> usize {
+    let mut moved: usize = 0;
+    for change in changes {
+        if let Change::CardsMoved { deck, from, .. } = change {
+            moved = moved.saturating_add(cards_behind(decks, deck, *from));
+        }
+    }
+    moved
+}
+
+/// Whether changes move the same cards so often that it costs less to look at all cards and to move each once.
+fn are_moved_often(alloc: Global, mirror: &Mirror, changes: &[Change]) -> Result<bool, AllocError> {
+    let mut once: usize = 0;
+    let places = moved_places(alloc, changes)?;
+    for (deck, from) in &places {
+        once = once.saturating_add(cards_behind(&mirror.decks, deck, *from));
+    }
+    let limit = once
+        .saturating_mul(2)
+        .saturating_add(mirror.homes.len() / 16);
+    Ok(cards_moved(&mirror.decks, changes) > limit)
+}
+
 /// The idents of the cards that changes move; none where they aren't known, or where a look at all cards costs less.
 fn few_idents(
     alloc: Global,
@@ -181,6 +213,9 @@ fn few_idents(
     let Some(mirror) = mirror else {
         return None;
     };
+    if are_moved_often(alloc, mirror, changes).ok()? {
+        return None;
+    }
     let movable = mirror.moved_idents(alloc, changes).ok()?;
     // A statement that looks for the cards of one ident costs as much as to pass over some ten cards.
     if movable.len() > mirror.homes.len() / 16 {

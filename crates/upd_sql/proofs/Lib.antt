@@ -16,3 +16,6 @@ pub mod Common
 pub mod MarkLemmas
 pub mod MovingLemmas
 pub mod ToldLemmas
+pub mod MovingTexts
+pub mod MovingEffects
+pub mod TogetherLemmas

@@ -9,3 +9,4 @@ pub mod First
 pub mod Making
 pub mod Wanted
 pub mod Doable
+pub mod Moving

@@ -10,6 +10,7 @@ ghost use Rattle.upd_sql.specs.Doable.{AllCanBeDone};
 use crate::row_writes::carry_out_moving;
 use crate::writes::insert_run;
 use sqlite::{Connection, Error};
+use std::alloc::Global;
 use std::collections::BTreeMap;
 use upd_core::{Change, Name};
 use upd_records::RunRow;
@@ -19,6 +20,7 @@ use upd_sqlite::{Rising, begin};
 /// looks for these only: they are of the idents listed, with the numbers there or later ones.
 pub fn commit_changes<S: Rising>(
     conn: &mut Connection<S>,
+    alloc: Global,
     movable: Option<&BTreeMap<Name, u32>>,
     changes: &[Change],
     row: &RunRow,
@@ -36,7 +38,7 @@ pub fn commit_changes<S: Rising>(
         (committed (map change_view changes.now) row.now) (state S.Store conn.old)) }
 {
     let mut tx = begin(conn);
-    carry_out_moving(&mut tx, movable, changes)?;
+    carry_out_moving(&mut tx, alloc, movable, changes)?;
     insert_run(&mut tx, row)?;
     tx.commit()
 }

@@ -7,6 +7,8 @@
 mod commits;
 mod decode;
 mod make;
+mod moving;
+mod moving_texts;
 mod reads;
 mod record;
 mod row_writes;

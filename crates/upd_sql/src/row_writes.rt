@@ -1,19 +1,24 @@
 //! Row changes, carried out by statements.
-ghost use Rattle.std.specs.Prelude.{◌≡◌, map, option_copied, pos};
+ghost use Rattle.std.specs.Prelude.{◌≡◌, ◌<◌, ◌≤◌, length, IfSome, map, option_copied, pos};
 ghost use Rattle.sqlite.specs.Held.{state};
 ghost use Rattle.upd_records.specs.Changes.{done, done_all, change_view, CardGone, CardsMoved, CountNow, StatusNow};
 ghost use Rattle.upd_records.specs.Fits.{AllFit, Fits};
 ghost use Rattle.upd_row_store.specs.Movable.{MovesListed};
+ghost use Rattle.upd_shifts.specs.Shifts.{as_change};
 ghost use Rattle.upd_sqlite.specs.Steps.{Makes};
 ghost use Rattle.upd_sql.specs.Commits.{Inside};
 ghost use Rattle.upd_sql.specs.Doable.{AllCanBeDone, CanBeDone};
 ghost use Rattle.upd_sql.specs.LibraryTables.{AnyTables, HoldsTables};
+ghost use Rattle.upd_sql.specs.Moving.{MakesIf};
 ghost use Rattle.upd_sql.specs.RowEdits.{with_state, without_state};
 
+use crate::moving::move_together;
 use crate::writes;
 use sqlite::{Alter, Error, Transaction};
+use std::alloc::Global;
 use std::collections::BTreeMap;
 use upd_core::{CardRef, Change, Name, Serial, Target};
+use upd_shifts::{Move, moves_of};
 
 /// Removes the card and its status.
 fn remove_card<S: Alter>(tx: &mut Transaction<'_, S>, card: &CardRef) -> Result<(), Error>
@@ -142,8 +147,8 @@ fn carry_out_listed<S: Alter>(
     }
 }
 
-/// Carries out changes in order, inside a transaction. Where it is known which cards may move, it looks for these only.
-pub(crate) fn carry_out_moving<S: Alter>(
+/// Carries out changes in order, one after another.
+fn carry_out_each<S: Alter>(
     tx: &mut Transaction<'_, S>,
     movable: Option<&BTreeMap<Name, u32>>,
     changes: &[Change],
@@ -157,10 +162,110 @@ pub(crate) fn carry_out_moving<S: Alter>(
     Ok(())
 }
 
+/// From this many moves of a deck on, its cards are read and each is moved once: that costs no more than two moves.
+const MANY_MOVES: usize = 3;
+
+/// The moves of one deck that changes are, if they are many: the deck, the first place, and the moves.
+fn many_moves(alloc: Global, changes: &[Change]) -> Option<(Serial, u32, Vec<Move>)>
+    ensures { IfSome result (λ m. map change_view changes.now ≡ map (as_change m.0) m.2.items) }
+{
+    if changes.len() < MANY_MOVES {
+        return None;
+    }
+    match changes.first() {
+        Some(Change::CardsMoved { deck, from, .. }) => {
+            let moves = moves_of(alloc, *deck, changes)?;
+            Some((*deck, *from, moves))
+        }
+        _ => None,
+    }
+}
+
+/// Makes changes at once, if they are many moves of a deck. Answers whether they are made.
+fn carry_out_together<S: Alter>(
+    tx: &mut Transaction<'_, S>,
+    alloc: Global,
+    changes: &[Change],
+) -> Result<bool, Error>
+    ensures { Inside (state S.Store) (MakesIf (done_all (map change_view changes.now))) tx.old.conn tx.new.conn result }
+{
+    match many_moves(alloc, changes) {
+        Some((deck, from, moves)) => move_together(tx, alloc, deck, from, &moves),
+        None => Ok(false),
+    }
+}
+
+/// Carries out changes in order: at once, where they are many moves of a deck.
+fn carry_out_unlisted<S: Alter>(
+    tx: &mut Transaction<'_, S>,
+    alloc: Global,
+    changes: &[Change],
+) -> Result<(), Error>
+    ensures { Inside (state S.Store) (Makes HoldsTables (AllFit (map change_view changes.now)) (done_all (map change_view changes.now)))
+        tx.old.conn tx.new.conn result }
+{
+    if carry_out_together(tx, alloc, changes)? {
+        return Ok(());
+    }
+    carry_out_each(tx, None, changes)
+}
+
+/// Carries out changes in order. Where it is known which cards may move, it looks for these only.
+fn carry_out_part<S: Alter>(
+    tx: &mut Transaction<'_, S>,
+    alloc: Global,
+    movable: Option<&BTreeMap<Name, u32>>,
+    changes: &[Change],
+) -> Result<(), Error>
+    ensures { Inside (state S.Store) (Makes HoldsTables (AllCanBeDone (option_copied movable.entry) (map change_view changes.now))
+        (done_all (map change_view changes.now))) tx.old.conn tx.new.conn result }
+{
+    match movable {
+        Some(_) => carry_out_each(tx, movable, changes),
+        None => carry_out_unlisted(tx, alloc, changes),
+    }
+}
+
+/// How many changes at the front are moves of one deck; 1 where the first is no move.
+fn moves_ahead(changes: &[Change]) -> usize
+    requires { 0 < length changes.now }
+    ensures { (0 < result) × (result ≤ length changes.now) }
+{
+    let mut count = 1;
+    if let Change::CardsMoved { deck, .. } = &changes[0] {
+        while count < changes.len() {
+            match &changes[count] {
+                Change::CardsMoved { deck: next, .. } if next == deck => count += 1,
+                _ => return count,
+            }
+        }
+    }
+    count
+}
+
+/// Carries out changes in order, inside a transaction. Where it is known which cards may move, it looks for these only.
+pub(crate) fn carry_out_moving<S: Alter>(
+    tx: &mut Transaction<'_, S>,
+    alloc: Global,
+    movable: Option<&BTreeMap<Name, u32>>,
+    changes: &[Change],
+) -> Result<(), Error>
+    ensures { Inside (state S.Store) (Makes HoldsTables (AllCanBeDone (option_copied movable.entry) (map change_view changes.now))
+        (done_all (map change_view changes.now))) tx.old.conn tx.new.conn result }
+{
+    let mut at = 0;
+    while at < changes.len() {
+        let next = at + moves_ahead(&changes[at..]);
+        carry_out_part(tx, alloc, movable, &changes[at..next])?;
+        at = next;
+    }
+    Ok(())
+}
+
 /// Carries out changes in order, inside a transaction.
 pub fn carry_out_all<S: Alter>(tx: &mut Transaction<'_, S>, changes: &[Change]) -> Result<(), Error>
     ensures { Inside (state S.Store) (Makes HoldsTables (AllFit (map change_view changes.now)) (done_all (map change_view changes.now)))
         tx.old.conn tx.new.conn result }
 {
-    carry_out_moving(tx, None, changes)
+    carry_out_each(tx, None, changes)
 }

@@ -168,11 +168,11 @@ impl<S: Rising> RowStore for SqlStore<S> {
         }
     }
 
-    fn commit(&mut self, _: Global, changes: &[Change], run: RunRow) -> Result<(), Fault> {
+    fn commit(&mut self, alloc: Global, changes: &[Change], run: RunRow) -> Result<(), Fault> {
         if !is_ours(&self.conn) {
             return Err(refused(&mut self.failures));
         }
-        match commit_changes(&mut self.conn, None, changes, &run) {
+        match commit_changes(&mut self.conn, alloc, None, changes, &run) {
             Ok(()) => Ok(()),
             Err(error) => Err(counted(error, &mut self.failures)),
         }
@@ -180,7 +180,7 @@ impl<S: Rising> RowStore for SqlStore<S> {
 
     fn commit_moving(
         &mut self,
-        _: Global,
+        alloc: Global,
         changes: &[Change],
         run: RunRow,
         movable: &BTreeMap<Name, u32>,
@@ -188,7 +188,7 @@ impl<S: Rising> RowStore for SqlStore<S> {
         if !is_ours(&self.conn) {
             return Err(refused(&mut self.failures));
         }
-        match commit_changes(&mut self.conn, Some(movable), changes, &run) {
+        match commit_changes(&mut self.conn, alloc, Some(movable), changes, &run) {
             Ok(()) => Ok(()),
             Err(error) => Err(counted(error, &mut self.failures)),
         }

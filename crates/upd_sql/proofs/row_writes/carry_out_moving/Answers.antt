@@ -1,17 +1,29 @@
-use Rattle.upd_sql.proofs.Common.{List, map, option_copied, take, Ok, sym, subst, ◌∙◌, state, ChangeView, done_all, change_view, Makes, AllCanBeDone}
-use Rattle.upd_sql.proofs.Common.{HoldsTables}
-use Rattle.upd_sql.proofs.Turns.{one_made, seen_more}
+use Rattle.upd_sql.proofs.Common.{◌≡◌, ◌+◌, ◌-◌, ◌++◌, List, length, map, map-append, option_copied, take, Ok, arith, sym, ap, subst, ◌∙◌, state, ChangeView}
+use Rattle.upd_sql.proofs.Common.{done_all, change_view, Makes, AllCanBeDone, HoldsTables}
+use Rattle.std.proofs.Common.{◌≤◌, drop}
+use Rattle.std.proofs.Math.Seq.{take-add}
+use Rattle.std.proofs.lemmas.Grind.{common_steps}
+use Rattle.upd_sql.proofs.TogetherLemmas.{part_made}
 use Rattle.upd_sql.proofs.row_writes.carry_out_moving.Goals as goal
 
-pub loop-change-preserved : goal.loop-change-preserved
-loop-change-preserved g c =
-    let old = state g.S.Store c.args.tx.now.conn.now in
-    let new = state g.S.Store c.carry_out_listed.new.tx.conn.now in
+pub loop-at-preserved : goal.loop-at-preserved
+loop-at-preserved g c =
+    let changes = c.args.changes.now in
+    let at = c.loop-at.at in
+    let n = c.moves_ahead.result in
+    let bound : at + n ≤ length changes = grind (arith, common_steps, c.moves_ahead.ensures.1, c.loop-at-test.true) in
+    let same : at + n - at ≡ n = omega arith in
+    let before = map change_view (take at changes) in
+    let part = map change_view (take (at + n - at) (drop at changes)) in
+    let more : map change_view (take (at + n) changes) ≡ before ++ part =
+    ap (map change_view) (take-add at n changes ∙ ap (λ k. take at changes ++ take k (drop at changes)) (sym same))
+    ∙ map-append change_view (take at changes) (take (at + n - at) (drop at changes)) in
     let movable = option_copied c.args.movable in
-    let before = map change_view (take c.loop-change.change-index c.args.changes.now) in
-    let more = seen_more c.args.changes.now c.loop-change.change-index c.change-item.result c.loop-change-test.true c.change-item.is in
-    let made = one_made movable before (change_view c.change-item.result) old (state g.S.Store c.loop-change.tx.conn.now) new tt
-    c.in_ok-carry_out_listed.field-0 c.loop-change.invariant.1 c.in_ok-carry_out_listed.ensures.does in (
-      c.in_ok-carry_out_listed.ensures.same_reference ∙ c.loop-change.invariant.0,
+    let old = state g.S.Store c.args.tx.now.conn.now in
+    let new = state g.S.Store c.carry_out_part.new.tx.conn.now in
+    let made = part_made movable before part old (state g.S.Store c.loop-at.tx.conn.now) new tt c.in_ok-carry_out_part.field-0 c.loop-at.invariant.2
+    c.in_ok-carry_out_part.ensures.does in (
+      bound,
+      c.in_ok-carry_out_part.ensures.same_reference ∙ c.loop-at.invariant.1,
       subst (λ (cs : List ChangeView). Makes {X = Unit {0}} HoldsTables (AllCanBeDone movable cs) (done_all cs) old new (Ok tt)) (sym more) made,
     )

@@ -1,0 +1,209 @@
+-- Shifts one after another do to the tables what moves do, where they do so to each row.
+use Rattle.upd_sql.proofs.Common.{◌≡◌, ℕ, ◌+◌, ◌<◌, Bool, true, false, List, [], ◌∷◌, ◌++◌, map, filter, take, length, get_or, Result, Ok, Err, None, Some}
+use Rattle.upd_sql.proofs.Common.{refl, sym, ap, subst, ◌∙◌, AllByRecursion, all_weaker, map-map, take_more, Error, State, CardRow, Rows, done, done_all}
+use Rattle.upd_sql.proofs.Common.{ChangeView, Fits, MovesListed, AllCanBeDone, HoldsTables, Makes, makes_then, makes_as, clean_before, steps_then, BTreeMap}
+use Rattle.std.proofs.Common.{◌≤◌, Option, cond, IfSome}
+use Rattle.sqlite_keyed.proofs.ListLemmas.{all_map}
+use Rattle.upd_records.specs.Changes.{moved_row}
+use Rattle.upd_records.specs.Fits.{AllFit}
+use Rattle.upd_row_store.specs.Movable.{AllMoveListed}
+use Rattle.upd_shifts.specs.declared.moves.Move.{Move}
+use Rattle.upd_shifts.specs.declared.shift.Shift.{Shift}
+use Rattle.upd_shifts.specs.Shifts.{CanShift, CanShiftAll, IsRight, as_change, is_behind, moved_all, shifted_all, shifted_row, with_shifted}
+use Rattle.upd_shifts.proofs.ShiftLemmas.{moves_past, not_behind}
+use Rattle.upd_sql.specs.Commits.{Looks}
+use Rattle.upd_sql.specs.Moving.{AllCanShift, AllRight, MakesIf, with_all_shifted}
+
+mapped_id : {A : Type 0} (xs : List A) → map (λ x. x) xs ≡ xs
+mapped_id [] = refl
+mapped_id (x ∷ xs) = ap (λ l. x ∷ l) (mapped_id xs)
+
+mapped_each : {A B : Type 0} (f g : A → B) (xs : List A) → AllByRecursion (λ x. f x ≡ g x) xs → map f xs ≡ map g xs
+mapped_each f g [] h = refl
+mapped_each f g (x ∷ xs) h = ap (λ y. y ∷ map f xs) h.0 ∙ ap (λ l. g x ∷ l) (mapped_each f g xs h.1)
+
+-- ---- one shift after another
+
+module _ (deck from : ℕ) where
+  can_push : (ss : List Shift) (s : Shift) (it : Rows) → AllCanShift deck from (ss ++ s ∷ []) it
+      → AllCanShift deck from ss it × CanShift deck from s (with_all_shifted deck from ss it)
+  can_push [] s it h = (tt, h.0)
+  can_push (t ∷ ss) s it h = let more = can_push ss s (with_shifted deck from t it) h.1 in ((h.0, more.0), more.1)
+
+  shifted_push : (ss : List Shift) (s : Shift) (it : Rows)
+      → with_shifted deck from s (with_all_shifted deck from ss it) ≡ with_all_shifted deck from (ss ++ s ∷ []) it
+  shifted_push [] s it = refl
+  shifted_push (t ∷ ss) s it = shifted_push ss s (with_shifted deck from t it)
+
+  pub one_shifted : {X Y : Type 0} (ss : List Shift) (s : Shift) (a b c : State) (x : X) (y : Y)
+      → Makes {X = X} HoldsTables (AllCanShift deck from ss) (with_all_shifted deck from ss) a b (Ok x)
+      → Makes {X = Y} HoldsTables (CanShift deck from s) (with_shifted deck from s) b c (Ok y)
+      → Makes {X = X} HoldsTables (AllCanShift deck from (ss ++ s ∷ [])) (with_all_shifted deck from (ss ++ s ∷ [])) a c (Ok x)
+  one_shifted ss s a b c x y p q =
+      let whole = makes_as HoldsTables _ (AllCanShift deck from (ss ++ s ∷ [])) _ (with_all_shifted deck from (ss ++ s ∷ [])) a c (Ok y)
+      (can_push ss s) (shifted_push ss s)
+      (makes_then HoldsTables (AllCanShift deck from ss) (CanShift deck from s) (with_all_shifted deck from ss) (with_shifted deck from s) a b c x (Ok y) p q) in
+      record { steps = record { going = whole.steps.going; kept = whole.steps.kept; survives = whole.steps.survives }; made = whole.made }
+
+  -- ---- row by row
+
+  all_can : (ss : List Shift) (it : Rows) → AllByRecursion (CanShiftAll deck from ss) it.cards → AllCanShift deck from ss it
+  all_can [] it h = tt
+  all_can (s ∷ ss) it h = (
+    all_weaker _ _ (λ r can. can.0) it.cards h,
+    all_can ss (with_shifted deck from s it)
+        (all_map (CanShiftAll deck from ss) (shifted_row deck from s) it.cards (all_weaker _ _ (λ r can. can.1) it.cards h)),
+  )
+
+  all_shifted : (ss : List Shift) (it : Rows) → with_all_shifted deck from ss it ≡ record it { cards = map (shifted_all deck from ss) it.cards }
+  all_shifted [] it = ap (λ cards. record it { cards = cards }) (sym (mapped_id it.cards))
+  all_shifted (s ∷ ss) it =
+      all_shifted ss (with_shifted deck from s it)
+      ∙ ap (λ cards. record it { cards = cards }) (map-map (shifted_all deck from ss) (shifted_row deck from s) it.cards)
+
+  all_moved : (ms : List Move) (it : Rows) → done_all (map (as_change deck) ms) it ≡ record it { cards = map (moved_all deck ms) it.cards }
+  all_moved [] it = ap (λ cards. record it { cards = cards }) (sym (mapped_id it.cards))
+  all_moved (m ∷ ms) it =
+      all_moved ms (done (as_change deck m) it)
+      ∙ ap (λ cards. record it { cards = cards }) (map-map (moved_all deck ms) (moved_row deck m.from m.by) it.cards)
+
+  module _ (ms : List Move) (ss : List Shift) where
+    together : (it : Rows) → AllRight deck from ms ss it
+        → AllCanShift deck from ss it × (with_all_shifted deck from ss it ≡ done_all (map (as_change deck) ms) it)
+    together it right = (
+      all_can ss it (all_weaker _ _ (λ r is. is.can) it.cards right),
+      all_shifted ss it
+          ∙ ap (λ cards. record it { cards = cards })
+          (mapped_each (shifted_all deck from ss) (moved_all deck ms) it.cards (all_weaker _ _ (λ r is. is.same) it.cards right))
+          ∙ sym (all_moved ms it),
+    )
+
+    -- what is right of the rows that are behind is right of all
+    pub all_right : (rs : List CardRow) → AllByRecursion (λ m. from ≤ m.from) ms → AllByRecursion (IsRight deck from ms ss) (filter (is_behind deck from) rs)
+        → AllByRecursion (IsRight deck from ms ss) rs
+    all_right [] low h = tt
+    all_right (r ∷ rs) low h = go (is_behind deck from r) refl h (all_right rs low)
+      where
+        go : (b : Bool) → is_behind deck from r ≡ b
+            → AllByRecursion (IsRight deck from ms ss) (cond b (r ∷ filter (is_behind deck from) rs) (filter (is_behind deck from) rs))
+            → (AllByRecursion (IsRight deck from ms ss) (filter (is_behind deck from) rs) → AllByRecursion (IsRight deck from ms ss) rs)
+            → AllByRecursion (IsRight deck from ms ss) (r ∷ rs)
+        go true is h rest = (h.0, rest h.1)
+        go false is h rest =
+            let still = not_behind deck from ss r is in
+            (record { can = still.0; same = still.1 ∙ sym (moves_past deck from ms r low is) }, rest h)
+
+    -- ---- steps of a transaction
+
+    pub made_together : {Y : Type 0} (a b c : State) (y : Y) → Looks {X = List Shift} (λ it found. AllRight deck from ms found it) a b (Ok ss)
+        → Makes {X = Y} HoldsTables (AllCanShift deck from ss) (with_all_shifted deck from ss) b c (Ok y)
+        → MakesIf (done_all (map (as_change deck) ms)) a c (Ok true)
+    made_together a b c y looks q = record {
+      steps = let all = steps_then a b c ss (Ok y) looks.steps q.steps in record { going = all.going; kept = all.kept; survives = all.survives };
+      made = λ clean inside it h.
+          let early = clean_before b c _ q.steps.survives clean in
+          let held : HoldsTables it b.now = subst (HoldsTables it) (sym (looks.same early h.schema_is)) h in
+          let all = together it (looks.found early it h) in
+          subst (λ rows. HoldsTables rows c.now) all.1 (q.made clean (looks.steps.going early inside) it all.0 held);
+    }
+
+pub on_some : {A : Type 0} {P Q : A → Type 0} (o : Option A) → IfSome o P → ((x : A) → P x → Q x) → IfSome o Q
+on_some None h f = tt
+on_some (Some x) h f = f x h
+
+-- what is found, by other words
+pub looks_as : {X Y : Type 0} (F : Rows → X → Type 0) (G : Rows → Y → Type 0) (a b : State) (x : X) (y : Y) → ((it : Rows) → F it x → G it y)
+    → Looks F a b (Ok x) → Looks G a b (Ok y)
+looks_as F G a b x y f looks = record {
+  steps = record { going = looks.steps.going; kept = looks.steps.kept; survives = looks.steps.survives };
+  was_open = looks.was_open;
+  same = looks.same;
+  found = λ clean it h. f it (looks.found clean it h);
+}
+
+pub looks_err : {X Y : Type 0} (F : Rows → X → Type 0) (G : Rows → Y → Type 0) (a b : State) (e d : Error) → Looks F a b (Err e) → Looks G a b (Err d)
+looks_err F G a b e d looks = record {
+  steps = record { going = looks.steps.going; kept = looks.steps.kept; survives = looks.steps.survives };
+  was_open = looks.was_open;
+  same = looks.same;
+  found = λ clean. tt;
+}
+
+module _ (change : Rows → Rows) where
+  -- nothing was made
+  pub not_made : {X : Type 0} (F : Rows → X → Type 0) (a b : State) (x : X) → Looks F a b (Ok x) → MakesIf change a b (Ok false)
+  not_made F a b x looks = record {
+    steps = record { going = looks.steps.going; kept = looks.steps.kept; survives = looks.steps.survives };
+    made = λ clean inside it h. subst (HoldsTables it) (sym (looks.same clean h.schema_is)) h;
+  }
+
+  -- what was tried failed
+  pub failed_look : {X : Type 0} (F : Rows → X → Type 0) (a b : State) (e d : Error) → Looks F a b (Err e) → MakesIf change a b (Err d)
+  failed_look F a b e d looks = record {
+    steps = record { going = looks.steps.going; kept = looks.steps.kept; survives = looks.steps.survives };
+    made = λ clean. tt;
+  }
+
+  pub failed_then : {X Y : Type 0} (F : Rows → X → Type 0) (G : Rows → Type 0) (g : Rows → Rows) (a b c : State) (x : X) (e d : Error) → Looks F a b (Ok x)
+      → Makes {X = Y} HoldsTables G g b c (Err e) → MakesIf change a c (Err d)
+  failed_then F G g a b c x e d looks q = record {
+    steps = let all = steps_then a b c x (Err e) looks.steps q.steps in record { going = all.going; kept = all.kept; survives = all.survives };
+    made = λ clean. tt;
+  }
+
+  -- it is answered that it was made
+  pub if_made : {X : Type 0} (F : Rows → Type 0) (a b : State) (x : X) → MakesIf change a b (Ok true) → Makes {X = X} HoldsTables F change a b (Ok x)
+  if_made F a b x p = record {
+    steps = record { going = p.steps.going; kept = p.steps.kept; survives = p.steps.survives };
+    made = λ clean inside it fits h. p.made clean inside it h;
+  }
+
+  pub if_failed : {X : Type 0} (F : Rows → Type 0) (a b : State) (e d : Error) → MakesIf change a b (Err e) → Makes {X = X} HoldsTables F change a b (Err d)
+  if_failed F a b e d p = record {
+    steps = record { going = p.steps.going; kept = p.steps.kept; survives = p.steps.survives };
+    made = λ clean. tt;
+  }
+
+  -- it is answered that it was not made, and it is made then
+  pub made_after : {X : Type 0} (F : Rows → Type 0) (a b c : State) (r : Result X Error) → MakesIf change a b (Ok false) → Makes HoldsTables F change b c r
+      → Makes HoldsTables F change a c r
+  made_after F a b c (Ok x) p q = record {
+    steps = steps_then a b c false (Ok x) p.steps q.steps;
+    made = λ clean inside it fits h.
+        let early = clean_before b c _ q.steps.survives clean in
+        q.made clean (p.steps.going early inside) it fits (p.made early inside it h);
+  }
+  made_after F a b c (Err e) p q = record { steps = steps_then a b c false (Err e) p.steps q.steps; made = λ clean. tt }
+
+-- ---- changes part by part
+
+fits_parts : (cs ds : List ChangeView) (it : Rows) → AllFit (cs ++ ds) it → AllFit cs it × AllFit ds (done_all cs it)
+fits_parts [] ds it h = (tt, h)
+fits_parts (c ∷ cs) ds it h = let more = fits_parts cs ds (done c it) h.1 in ((h.0, more.0), more.1)
+
+listed_parts : (movable : BTreeMap (List ℕ) ℕ) (cs ds : List ChangeView) (it : Rows) → AllMoveListed movable (cs ++ ds) it
+    → AllMoveListed movable cs it × AllMoveListed movable ds (done_all cs it)
+listed_parts movable [] ds it h = (tt, h)
+listed_parts movable (c ∷ cs) ds it h = let more = listed_parts movable cs ds (done c it) h.1 in ((h.0, more.0), more.1)
+
+can_parts : (movable : Option (BTreeMap (List ℕ) ℕ)) (cs ds : List ChangeView) (it : Rows) → AllCanBeDone movable (cs ++ ds) it
+    → AllCanBeDone movable cs it × AllCanBeDone movable ds (done_all cs it)
+can_parts None cs ds it h = fits_parts cs ds it h
+can_parts (Some movable) cs ds it h =
+    let fit = fits_parts cs ds it h.0 in
+    let listed = listed_parts movable cs ds it h.1 in
+    ((fit.0, listed.0), (fit.1, listed.1))
+
+done_parts : (cs ds : List ChangeView) (it : Rows) → done_all ds (done_all cs it) ≡ done_all (cs ++ ds) it
+done_parts [] ds it = refl
+done_parts (c ∷ cs) ds it = done_parts cs ds (done c it)
+
+-- some changes more
+pub part_made : {X Y : Type 0} (movable : Option (BTreeMap (List ℕ) ℕ)) (cs ds : List ChangeView) (a b c : State) (x : X) (y : Y)
+    → Makes {X = X} HoldsTables (AllCanBeDone movable cs) (done_all cs) a b (Ok x)
+    → Makes {X = Y} HoldsTables (AllCanBeDone movable ds) (done_all ds) b c (Ok y)
+    → Makes {X = X} HoldsTables (AllCanBeDone movable (cs ++ ds)) (done_all (cs ++ ds)) a c (Ok x)
+part_made movable cs ds a b c x y p q =
+    let whole = makes_as HoldsTables _ (AllCanBeDone movable (cs ++ ds)) _ (done_all (cs ++ ds)) a c (Ok y) (can_parts movable cs ds) (done_parts cs ds)
+    (makes_then HoldsTables (AllCanBeDone movable cs) (AllCanBeDone movable ds) (done_all cs) (done_all ds) a b c x (Ok y) p q) in
+    record { steps = record { going = whole.steps.going; kept = whole.steps.kept; survives = whole.steps.survives }; made = whole.made }
