@@ -27,9 +27,10 @@ def said(*words):
 MODES = ["full", "normal", "quick"]
 
 # The scripts that are installed, and the places of their words.
-SCRIPTS = {"upd-bring": "bring.sh", "upd-tree": "tree.sh", "upd-edit": "edit.sh"}
+SCRIPTS = {"upd-bring": "bring.sh", "upd-tree": "tree.sh", "upd-edit": "edit.sh", "upd-put": "put.sh"}
 WORDS = {"upd-bring library.db ": [], "upd-bring --skip --list ": ["library.db"], "upd-tree library.db ": [], "upd-edit library.db LYON ": [],
-         "upd-edit --mode ": MODES, "upd-edit --mode quick ": ["library.db"], "upd-edit --set ": []}
+         "upd-edit --mode ": MODES, "upd-edit --mode quick ": ["library.db"], "upd-edit --set ": [], "upd-edit --list ": ["library.db"],
+         "upd-put -m ": [], "upd-put library.db ": [], "upd-put library.db LYON ": ["library.db"]}
 
 # Asks bash for the completions of the words after its script, the last of which is being typed.
 BASH = 'source "$0"; COMP_WORDS=("$@"); COMP_CWORD=$(($# - 1)); %s; printf "%%s\\n" "${COMPREPLY[@]}"'
@@ -57,7 +58,7 @@ def asked(shell, commands):
               "upd run library.db LYON ": [], "upd explain Set": ["Settled"], "upd help ": sorted(commands)}
     wanted |= {f"upd {command} ": ["library.db"] for command in commands if command not in ("trial", "explain", "help")}
     wanted |= {f"{script} ": ["library.db"] for script in SCRIPTS} | WORDS
-    wanted |= {f"{script} -": sorted(re.findall(r"\[(--\w+)", usage(script))) for script in SCRIPTS}
+    wanted |= {f"{script} -": sorted(re.findall(r"\[(--?\w+)", usage(script))) for script in SCRIPTS}
     with tempfile.TemporaryDirectory() as folder:
         (Path(folder) / "library.db").touch()
         found = {line: completed(folder, shell, line) for line in wanted}

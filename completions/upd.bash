@@ -1,4 +1,4 @@
-# bash completion of upd, and of its scripts upd-bring, upd-tree and upd-edit
+# bash completion of upd, and of its scripts upd-bring, upd-tree, upd-edit and upd-put
 _upd() {
     local word=${COMP_WORDS[COMP_CWORD]} command=${COMP_WORDS[1]} words=
     local commands="trial init run settle spool serve serve-local compile list history blame show idents yanks page text text-at correct correct-at correct-parts try try-at source runs sites backup examine replay migrate explain help"
@@ -18,17 +18,21 @@ _upd_script() {
     local word=${COMP_WORDS[COMP_CWORD]} options="" place=1 at
     case ${COMP_WORDS[0]##*/} in
         upd-bring) options="--c --skip --list" ;;
-        upd-edit) options="--mode --set" ;;
+        upd-tree) options="--list" ;;
+        upd-edit) options="--mode --set --list -m" ;;
+        upd-put) options="--c --gone --yes --mode -m" ;;
     esac
     for ((at = 1; at < COMP_CWORD; at++)); do
-        case ${COMP_WORDS[at]} in --list | --mode | --set) ((at++)) ;; -*) ;; *) ((place++)) ;; esac
+        case ${COMP_WORDS[at]} in --list | --mode | --set | -m) ((at++)) ;; -*) ;; *) ((place++)) ;; esac
     done
     COMPREPLY=()
     case ${COMP_WORDS[COMP_CWORD - 1]},$word,$place in
         --mode,*) mapfile -t COMPREPLY < <(compgen -W "full quick normal" -- "$word") ;;
-        --set,*) ;;
+        --set,* | -m,*) ;;
         --list,* | *,[!-]*,1 | *,,1) compopt -o filenames 2> /dev/null; mapfile -t COMPREPLY < <(compgen -f -- "$word") ;;
         *,-*,1) mapfile -t COMPREPLY < <(compgen -W "$options" -- "$word") ;;
+        *,[!-]*,[345] | *,,[345])
+            [ "${COMP_WORDS[0]##*/}" != upd-put ] || { compopt -o filenames 2> /dev/null; mapfile -t COMPREPLY < <(compgen -f -- "$word"); } ;;
     esac
 }
-complete -F _upd_script upd-bring upd-tree upd-edit
+complete -F _upd_script upd-bring upd-tree upd-edit upd-put

@@ -49,7 +49,7 @@ function __upd_place -d 'The place of the operand of a script that is typed'
     for word in (commandline -opc)[2..-1]
         if test $value -eq 1
             set value 0
-        else if contains -- $word --list --mode --set
+        else if contains -- $word --list --mode --set -m
             set value 1
         else if not string match -q -- '-*' $word
             set place (math $place + 1)
@@ -57,12 +57,21 @@ function __upd_place -d 'The place of the operand of a script that is typed'
     end
     echo $place
 end
-for script in upd-bring upd-tree upd-edit
+for script in upd-bring upd-tree upd-edit upd-put
     complete -c $script -f
     complete -c $script -n 'test (__upd_place) -eq 1' -F
 end
-complete -c upd-bring -l c -d 'make files of C fit'
+complete -c upd-bring -l c -d 'make C and other texts fit'
 complete -c upd-bring -l skip -d 'leave out files that do not fit'
-complete -c upd-bring -l list -r -F -d 'write what was changed'
+complete -c upd-bring -l list -r -F -d 'note what was changed'
+complete -c upd-tree -l list -r -F -d 'make a tree to edit, and note it'
 complete -c upd-edit -l mode -x -a 'full quick normal' -d 'the mode of the run'
 complete -c upd-edit -l set -x -d 'the name of the set'
+complete -c upd-edit -l list -r -F -d 'edit the files of this list'
+complete -c upd-edit -s m -x -d 'what the run is for'
+complete -c upd-put -n 'test (__upd_place) -ge 3' -F
+complete -c upd-put -l c -d 'make C and other texts fit'
+complete -c upd-put -l gone -d 'take the decks of files that are gone out of use'
+complete -c upd-put -l yes -d 'send without asking'
+complete -c upd-put -l mode -x -a 'full quick normal' -d 'the mode of the runs'
+complete -c upd-put -s m -x -d 'what the runs are for'

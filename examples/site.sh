@@ -77,7 +77,7 @@ mkdir -p "$folder/outbox" "$folder/sent" "$folder/replies" || exit 3
 # Only one script at a time works in a folder. What sends for it has the lock too, and ends before another script begins.
 (: >>"$folder/lock") || exit 3
 exec 9>"$folder/lock" || exit 3
-flock -n 9 || {
+flock -n 9 9>&9 || { # some shells close it else
     say "another site.sh is at work in $folder"
     exit 3
 }

@@ -2,33 +2,43 @@
 # Writes a tree of source files from the decks of a library, as they are now.
 #
 #     tree.sh FILE FOLDER < LIST
+#     tree.sh --list LIST FILE FOLDER
 #
 # FILE is the library; no command may have it open. FOLDER is made, and must not be there before. LIST says which deck is which
 # file: bring.sh writes it. UPD is the program (`upd` unless it is set).
 #
-# A file gets the active cards of its deck, with calls as they are. What bring.sh changed in a line is undone as long as the card
-# of that line is active: so a file whose deck was not corrected is the file that it was, byte for byte. A line that was cut is
-# put together again where all its cards are active, one after the other; else it stays cut, as C allows it. Lines that came
-# later are as they are in the library, but with a CR where each line of the file had one, and with the bytes that `bytes` lists.
+# With --list the tree is one to edit, and put.sh brings in what was changed in it: LIST notes of each deck as of which ident its
+# file is. A tree of `< LIST` is to be read: LIST still belongs to the tree before.
 #
-# LIST has these lines, of at most 80 bytes. A deck that came later needs the first two only, written by hand. N is the number of
-# a line as it was brought in.
+# A file gets the active cards of its deck, with calls as they are, and the rights that LIST notes. What bring.sh or put.sh changed
+# in a line is undone as long as the card of that line is active: so a file whose deck was not corrected in another way is the
+# file that it was, byte for byte. A line that was cut is put together again where its cards are active, one after the other; else it
+# stays cut, as C allows it. Lines that came in another way are as they are in the library, but with a CR where each line of the
+# file had one, and with the bytes that `bytes` lists.
+#
+# LIST has these lines, of at most 80 bytes. A deck that came in another way needs the first two only, written by hand. N is the
+# number of a line as it was brought in.
 #
 #     deck NAME            begins a deck
 #     path PATH            its file in FOLDER; several lines are one path; \0 and three octal digits are a byte
+#     since IDENT          the ident that was youngest when the file was that of the deck
+#     fit c                the file was made to fit by `--c`
+#     mode OOO             the file's rights, where they aren't 644
 #     part SET N           the lines from N on were added by SET
 #     cr all, cr N ..      lines that ended with CR and LF
 #     blanks N:COUNT ..    blanks at the end of the line
 #     feed N:COLUMN ..     a form feed, where the card has a blank
 #     indent N ..          lines that were indented by a blank
 #     cut N:COUNT ..       a line that was cut into COUNT cards
+#     join N:M ..          the card N ends with a cut, and M goes on
 #     open N               the last line, where it had no line end
 #     bytes OOO ..         octal codes: the escape \OOO is that byte in each line, also in those that came later
 #     byte N:COLUMN ..     another byte, where the card has its escape
 #
 # Exit status:
 #   0  the files are written
-#   1  a deck is not in the library or has no active card, or a path leads out of FOLDER: each is named, the others are written
+#   1  a deck is not in the library or has no active card, or a path is there already or leads out of FOLDER: each is named, the
+#      others are written
 #   2  the words are not FILE FOLDER
 #   3  something else failed, as a command or the disk; what was written may be incomplete
 set -u
@@ -38,8 +48,13 @@ say() {
     printf '%s: %s\n' "${0##*/}" "$*" >&2
 }
 
+list=''
+if [ "${1-}" = --list ] && [ -n "${2-}" ]; then
+    list=$2
+    shift 2
+fi
 [ $# -eq 2 ] || {
-    say "usage: ${0##*/} FILE FOLDER < LIST"
+    say "usage: ${0##*/} [--list LIST] FILE FOLDER < LIST; with --list no LIST is read from standard input"
     exit 2
 }
 library=$1 folder=$2 upd=${UPD:-upd} result=0
@@ -47,6 +62,12 @@ library=$1 folder=$2 upd=${UPD:-upd} result=0
 work=$(mktemp -d) || exit 3
 trap 'rm -rf "$work"' EXIT
 trap 'exit 3' HUP INT TERM
+if [ -n "$list" ]; then
+    # All decks as of one moment.
+    "$upd" backup -- "$library" "$work/copy" && "$upd" idents -- "$work/copy" >"$work/idents" || exit 3
+    library=$work/copy since=$(grep -v ' purged$' "$work/idents" | tail -n 1 | cut -d ' ' -f 2)
+    exec <"$list" || exit 3
+fi
 mkdir -- "$folder" || exit 3
 
 # The lines of the file, from the notes of a deck and its listing.
@@ -60,6 +81,8 @@ restore() {
                 split($i, item, ":")
                 if ($1 == "feed") feeds[item[1]] = feeds[item[1]] " " item[2]
                 else if ($1 == "byte") note["byte", item[1], item[2]] = 1
+                else if ($1 == "cut") for (n = item[1]; n < item[1] + item[2] - 1; n++) next_of[n] = n + 1
+                else if ($1 == "join") next_of[item[1]] = item[2]
                 else note[$1, item[1]] = item[2] == "" ? 1 : item[2]
             }
             next
@@ -79,25 +102,22 @@ restore() {
             }
             return done text
         }
-        function is_whole(at, cards,    i) {
-            for (i = 0; i < cards; i++)
-                if (line[at + i] != line[at] + i || (i < cards - 1 && text[at + i] !~ /\\$/)) return 0
-            return 1
+        # the last card of the line that begins with a card, or 0 where one of its cards is another
+        function last_of(at) {
+            for (; line[at] in next_of; at++) if (at == count || line[at + 1] != next_of[line[at]] || text[at] !~ /\\$/) return 0
+            return at
         }
         END {
             for (at = 1; at <= count; at++) {
-                number = line[at]; whole = text[at]; cards = note["cut", number]
-                if (cards && is_whole(at, cards)) {
-                    for (last = at + cards - 1; at < last; ) whole = substr(whole, 1, length(whole) - 1) text[++at]
-                    cards = 0
-                }
-                if (!cards) {
+                number = line[at]; whole = text[at]; last = last_of(at)
+                while (at < last) whole = substr(whole, 1, length(whole) - 1) text[++at]
+                if (last) {
                     if (note["indent", number]) sub(/^ /, "", whole)
                     for (i = note["blanks", number]; i > 0; i--) whole = whole " "
                     size = split(feeds[number], column, " ")
                     for (i = 1; i <= size; i++) whole = substr(whole, 1, column[i] - 1) "\f" substr(whole, column[i] + 1)
                 }
-                whole = decoded(whole, cards ? 0 : number)
+                whole = decoded(whole, last ? number : 0)
                 if (all_cr || note["cr", number]) whole = whole "\r"
                 printf "%s%s", whole, (at == count && note["open", line[at]] ? "" : "\n")
             }
@@ -128,7 +148,14 @@ write_file() {
         return
     fi
     file=$folder/$path
+    if [ -e "$file" ]; then
+        say "$path, of $1, is there already"
+        result=1
+        return
+    fi
     mkdir -p -- "${file%/*}" && restore "$1" >"$file" || exit 3
+    mode=$(sed -n 's/^mode \([0-7][0-7][0-7]\)$/\1/p' "$work/notes")
+    [ -z "$mode" ] || chmod "$mode" "$file" || exit 3
 }
 
 deck='' path=''
@@ -143,4 +170,9 @@ while read -r word rest || [ -n "$word" ]; do
     printf '%s %s\n' "$word" "$rest" >>"$work/notes" || exit 3
 done
 if [ -n "$deck" ]; then write_file "$deck" "$path"; fi
+if [ -n "$list" ]; then
+    since=$since awk '
+        $1 != "since" { print }
+        $1 == "deck" { print "since " ENVIRON["since"] }' "$list" >"$list.new" && mv "$list.new" "$list" || exit 3
+fi
 exit "$result"
