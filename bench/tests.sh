@@ -1,0 +1,38 @@
+#!/bin/sh
+# Runs the tests without proofs: `rt try --test` in each crate of tests, or in those that are named.
+#
+#     bench/tests.sh [CRATE..]         as bench/tests.sh upd_wire_tests
+#
+# A crate is compiled first, for a minute or more, with nothing to see. Then each test has its line as it ends. A test that `rt` gives up
+# after its 60 seconds is `out of time` and not failed: run it again on a quiet machine. The last line is `N passed, M failed`.
+#
+# Exit status: 0 no test failed, 1 a test failed, 3 a crate's tests could not be run or a test ran out of time
+set -u
+cd "$(dirname -- "$0")/.." || exit 3
+[ $# -gt 0 ] || set -- $(sed -n 's/^\(upd_[a-z_]*tests\):.*/\1/p' crates.txt)
+counts=$(mktemp) && trap 'rm -f "$counts"' EXIT || exit 3
+for crate; do
+    began=$(date +%s)
+    echo "$crate:"
+    (cd "crates/$crate" && rt try --test 2>&1) | awk -v crate="$crate" -v counts="$counts" '
+        function end() {
+            if (held == "") return
+            if (held ~ /did not end within the time limit/) { sub(/FAILED[^\n]*/, "out of time", held); sub(/\n.*/, "", held); slow++ } else failed++
+            print held; held = ""
+        }
+        /^test .* \.\.\. FAILED/ { end(); held = $0; next }
+        /^test .* \.\.\. ok/ { end(); passed++; print; fflush(); next }
+        /^test result: / { end(); ended = 1; next }
+        held != "" { held = held "\n" $0; next }
+        !/^(tests: |run=)/ { print; fflush() }
+        END { end(); print passed + 0, failed + 0, slow + 0, !ended >> counts }'
+    echo "$crate: $(tail -n 1 "$counts" | cut -d ' ' -f 1) passed in $(($(date +%s) - began)) seconds"
+done
+awk '
+    { passed += $1; failed += $2; slow += $3; unrun += $4 }
+    END {
+        if (unrun) print unrun " crates were not run to their end"
+        if (slow) print slow " tests ran out of time"
+        print passed " passed, " failed " failed"
+        exit failed ? 1 : unrun || slow ? 3 : 0
+    }' "$counts"
