@@ -1,0 +1,181 @@
+#!/bin/sh
+# Tries the scripts of examples/ under each shell and each awk that is installed, of dash, bash, busybox, ksh93, yash, mawk, gawk and original-awk.
+#
+#     bench/scripts.sh [EXECUTABLE]     crates/upd/out/upd, unless another one is named
+#
+# Under each: bring.sh and tree.sh bring in files with hostile names and bytes and write them back, byte for byte. Two sites put their changes into one
+# library by put.sh, on other lines and on the same one; one adds a file, removes one, changes 2,500 lines, and is killed while it sends. edit.sh edits a
+# deck, a line that another site has changed, and files of a tree. site.sh sends a run, and once finds its folder in use. What comes out must be the tree
+# that was put in, and LIST the same under all. Exit status: 0 all is as it should be, 1 something is not, 3 the executable is not there.
+set -u
+export LC_ALL=C
+root=$(cd "$(dirname -- "$0")/.." && pwd)
+upd=${1:-$root/crates/upd/out/upd}
+case $upd in /*) ;; *) upd=$(pwd)/$upd ;; esac
+[ -x "$upd" ] || {
+    echo "$upd isn't there: \`rt run\` in crates/upd makes it" >&2
+    exit 3
+}
+work=$(mktemp -d) && trap 'rm -rf "$work"' EXIT || exit 3
+export UPD="$upd"
+wrong=0
+
+# Runs a command, whose status must be the first word.
+expect() {
+    wanted=$1
+    shift
+    "$@" >out 2>err
+    status=$?
+    [ "$status" -eq "$wanted" ] && return
+    echo "$tools: status $status, and not $wanted: $*"
+    tail -n 3 err
+    wrong=$((wrong + 1))
+}
+
+# What must hold.
+must() {
+    "$@" >held 2>&1 && return
+    echo "$tools: does not hold: $*"
+    head -n 3 held
+    wrong=$((wrong + 1))
+}
+
+script() {
+    name=$1
+    shift
+    sh "$root/examples/$name.sh" "$@"
+}
+
+answering() {
+    answer=$1
+    shift
+    printf '%b' "$answer" | "$@"
+}
+
+# 2,500 lines, and files with names and bytes that scripts trip over. The last three can't be brought in.
+make_source() {
+    mkdir source "source/a b"
+    awk 'BEGIN { for (i = 1; i <= 2500; i++) print "line " i }' >source/long.c
+    printf 'int a;\n*/\n*DECK X\n\f  x\t \n*C\n' >'source/$HOME `id` "q" %s\.c'
+    printf 'one\r\ntwo\r\n' >"source/a b/-cr*.txt"
+    printf 'one\r\ntwo\n' >"source/a b/mixed'.txt"
+    printf 'caf\351 "\\351"\n\303\251 \\\\ last' >"source/a b/caf$(printf '\351').c"
+    awk 'BEGIN { for (i = 0; i < 300; i++) s = s (i % 7 ? "?" : "\\101"); print s; print "#!x" s }' >source/run.sh
+    chmod 755 source/run.sh
+    : >source/empty.h
+    printf '\n\n  \n' >source/blank.h
+    printf 'a\000\351\n' >source/nul.c
+    printf 'R"(\351)"\n' >source/raw.c
+    printf 'L"\351"\n' >source/wide.c
+}
+
+try_trees() {
+    make_source
+    expect 0 "$upd" init l.db
+    find source -type f | sort >names
+    expect 1 answering "$(sed 's/[\\%]/\\&/g; s/$/\\n/' names | tr -d '\n')" script bring --c --list LIST l.db ROME 1
+    expect 0 script bring --c --skip --list LIST l.db ROME 1 <names && cp out spool
+    must [ "$(grep -c ': ' err)" -ge 4 ]
+    expect 0 "$upd" spool l.db <spool
+    rm source/nul.c source/raw.c source/wide.c
+    expect 0 script tree l.db tree <LIST
+    must diff -r source tree/source
+    must [ -x tree/source/run.sh ]
+    expect 1 script bring --list LIST l.db ROME 50 <names
+    cp LIST LIST.ROME
+    cp LIST LIST.LYON
+    expect 0 script tree --list LIST.ROME l.db rome
+    expect 0 script tree --list LIST.LYON l.db lyon
+}
+
+same_tree() {
+    rm -rf now
+    expect 0 script tree l.db now <"LIST.$1"
+    must diff -r now "$2"
+}
+
+try_puts() {
+    sed '10s/.*/ROME/' rome/source/long.c >new && cat new >rome/source/long.c
+    printf '*/\n%0200d\\' 7 >>rome/source/blank.h
+    printf 'zero\r\none\r\n' >"rome/source/a b/-cr*.txt"
+    expect 0 script put --yes -m 'what it is for' l.db ROME LIST.ROME rome
+    same_tree ROME rome
+    sed '20s/.*/LYON  /' lyon/source/long.c >new && cat new >lyon/source/long.c
+    printf 'new\n' >lyon/source/new.c
+    expect 0 script put --c --yes l.db LYON LIST.LYON lyon source/new.c
+    same_tree LYON lyon
+    must grep -qx ROME lyon/source/long.c
+    for site in ROME LYON; do
+        folder=$(echo "$site" | tr '[:upper:]' '[:lower:]')
+        sed "30s/.*/$site too/" "$folder/source/long.c" >new && cat new >"$folder/source/long.c"
+    done
+    expect 0 script put --yes l.db ROME LIST.ROME rome
+    expect 1 answering 'no\n' script put --yes l.db LYON LIST.LYON lyon
+    expect 0 answering 'yes\n' script put --yes l.db LYON LIST.LYON lyon
+    same_tree LYON lyon
+    sed 's/line/row/' lyon/source/long.c >new && cat new >lyon/source/long.c
+    rm lyon/source/empty.h
+    expect 0 answering 'show\nyes\n' script put --gone l.db LYON LIST.LYON lyon
+    same_tree LYON lyon
+    # shellcheck disable=SC2016 # these words are of the script
+    printf '#!/bin/sh\n%s "$@"\n[ "$1" != run-at ] || kill -9 $PPID\n' "$upd" >dying && chmod +x dying
+    printf 'more\n' >>lyon/source/new.c
+    UPD=$work/$count/dying expect 137 script put --yes l.db LYON LIST.LYON lyon
+    expect 0 script put --yes l.db LYON LIST.LYON lyon
+    same_tree LYON lyon
+    must [ "$("$upd" text l.db NEW | grep -c more)" -eq 1 ]
+}
+
+try_edits() {
+    printf '*DECK A\nONE\nTWO\n' >run
+    expect 0 "$upd" run l.db PARIS 1 quick <run
+    expect 0 env EDITOR="sed -i -e 's/TWO/two words/'" sh -c 'echo yes | sh "$0" -m "why not" l.db PARIS A' "$root/examples/edit.sh"
+    must grep -qx '\*/ why not' out
+    must [ "$("$upd" text l.db A | tail -n 1)" = 'two words' ]
+    # shellcheck disable=SC2016 # these words are of the editor
+    printf '#!/bin/sh\nprintf "*IDENT O1\\n*DELETE A.2\\nOSLO\\n" | "$UPD" run l.db OSLO 1 quick\nsed -i s/ONE/PARIS/ "$1"\n' >editor && chmod +x editor
+    expect 1 env EDITOR=./editor sh -c 'printf "yes\nno\n" | sh "$0" l.db PARIS A' "$root/examples/edit.sh"
+    must grep -q '^I A.2 *O1 ' err
+    expect 0 env EDITOR="sed -i -e '\$s/\$/ */'" sh -c 'echo yes | sh "$0" --list LIST.LYON l.db LYON source/run.sh' "$root/examples/edit.sh"
+    expect 0 script put --yes l.db LYON LIST.LYON lyon
+    same_tree LYON lyon
+}
+
+try_site() {
+    mkdir -p site/outbox && cp run site/outbox/a.quick
+    sed -i.old 's/DECK A/DECK S/' site/outbox/a.quick && rm site/outbox/a.quick.old
+    expect 0 script site site BERN l.db
+    must grep -q '"state":"accepted"' site/replies/1.json
+    exec 8>site/lock && flock -n 8
+    expect 3 script site site BERN l.db
+    exec 8>&-
+    must grep -q 'is at work' err
+}
+
+# Tries all in a folder, with these as sh and awk.
+try_tools() {
+    tools="$1, $2" count=$((count + 1))
+    mkdir "$work/$count" "$work/$count/bin" && cd "$work/$count" || exit 3
+    printf '#!/bin/bash\nexec %s "$@"\n' "$1" >bin/sh
+    printf '#!/bin/bash\nexec %s "$@"\n' "$2" >bin/awk
+    chmod +x bin/sh bin/awk
+    PATH=$work/$count/bin:$old_path
+    try_trees
+    try_puts
+    try_edits
+    try_site
+    PATH=$old_path
+    [ -e "$work/LIST" ] || cp LIST.LYON "$work/LIST"
+    must cmp "$work/LIST" LIST.LYON
+    echo "$tools: tried"
+}
+
+old_path=$PATH count=0
+for shell in dash bash 'busybox sh' ksh93 yash; do
+    if command -v "${shell% *}" >"$work/found"; then try_tools "$(command -v "${shell% *}")${shell#"${shell% *}"}" "$(command -v mawk || command -v awk)"; fi
+done
+for awk in gawk 'busybox awk' original-awk; do
+    if command -v "${awk% *}" >"$work/found"; then try_tools "$(command -v dash || command -v sh)" "$(command -v "${awk% *}")${awk#"${awk% *}"}"; fi
+done
+echo "$count shells and awks tried, $wrong differences"
+[ "$wrong" -eq 0 ]
