@@ -264,15 +264,15 @@ agreed() {
 send() {
     number=${1##*/} since=$(cat "$1/since")
     while :; do
-        "$upd" run-at -- "$library" "$site" "$number" "$mode" "$since" <"$1/run" >"$work/reply" 2>"$work/faults"
+        "$upd" run-at -- "$library" "$sent_as" "$number" "$sent_mode" "$since" <"$1/run" >"$work/reply" 2>"$work/faults"
         status=$?
         cat "$work/faults" >&2
         if [ "$status" -eq 0 ]; then
-            say "run $number of $site is accepted"
+            say "run $number of $sent_as is accepted"
             note_run "$1"
             return
         elif [ "$status" -ne 1 ]; then
-            say "run $number of $site has no answer: start it again"
+            say "run $number of $sent_as has no answer: start it again"
             exit 3
         fi
         cat "$work/reply" >&2
@@ -284,9 +284,9 @@ send() {
     done
 }
 
-# Sends all that LIST.put has, first the new files.
+# Sends all that LIST.put has, first the new files. As what it is sent is there too.
 send_all() {
-    mode=$(cat "$put/mode")
+    read -r sent_as sent_mode <"$put/ready" || exit 3
     if [ -e "$put/spool" ]; then
         "$upd" spool "$library" <"$put/spool" >"$work/answers" || exit 3
         if grep -v '"state":"accepted"}$' "$work/answers" >&2; then
@@ -299,14 +299,17 @@ send_all() {
     rm -rf "$put"
 }
 
-if [ -e "$put/mode" ]; then
+if [ -e "$put/ready" ]; then
     say "the runs of $put are sent again"
     send_all
 fi
 
 # One put.sh at a time has LIST.put.
-mkdir -- "$put" || exit 3
-trap 'rm -rf "$work"; [ -e "$put/mode" ] || rm -rf "$put"' EXIT
+mkdir -- "$put" || {
+    say "another put.sh is at work with $list, or was killed before it sent: then remove $put"
+    exit 3
+}
+trap 'rm -rf "$work"; [ -e "$put/ready" ] || rm -rf "$put"' EXIT
 is_plain() {
     case $message in
     *[!\ -~]*) return 1 ;;
@@ -484,7 +487,7 @@ if [ -n "$(ls "$put")" ]; then
         [ -z "$(serial "$(cat "$run/since")")" ] || "$upd" try-at -- "$copy" quick "$(cat "$run/since")" <"$run/run" 2>&1 >"$work/reply" | sed '/^upd: 1: dropped comments: 1, /d' >&2
     done
     if [ -z "$yes" ] && ! agreed "send these runs? yes, show or no: "; then exit 1; fi
-    printf '%s\n' "$mode" >"$put/mode" || exit 3
+    printf '%s %s\n' "$site" "$mode" >"$put/ready" || exit 3
     send_all
 fi
 rm -rf "$put"
