@@ -234,10 +234,9 @@ show() {
     cat "$work/warnings" >&2
 }
 
-# Shows which changes of others a run meets: the lines that `run-at` says, and who switched the cards that they name, and those beside.
+# Shows who switched the cards that the conflicts of `run-at` name, and those beside.
 show_conflicts() {
-    cat "$work/reply" >&2
-    cat "$work/reply" "$work/warnings" | tr -c 'A-Z0-9+*/()$=.\n-' '\n' | grep '^[^.]*[^.]\.[1-9][0-9]*$' | sort -u >"$work/cards"
+    tr -c 'A-Z0-9+*/()$=.\n-' '\n' <"$work/warnings" | grep '^[^.]*[^.]\.[1-9][0-9]*$' | sort -u >"$work/cards"
     cat "$work"/*.deck | while IFS= read -r name; do
         ask blame -- "$library" "$name" | awk -v cards="$work/cards" '
             BEGIN { while ((getline card < cards) > 0) named[card] }
@@ -256,7 +255,7 @@ send() {
         case $status in
         0) sent=1 && cat "$work/reply" ;;
         1)
-            if grep -q '"state":"refused"}$' "$work/reply"; then
+            if [ -s "$work/reply" ] || ! grep -q '^upd: [0-9]*: ' "$work/warnings"; then # a refusal, and no conflict
                 cat "$work/reply"
                 exit 1
             fi

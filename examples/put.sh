@@ -277,10 +277,9 @@ send() {
         fi
         cat "$work/reply" >&2
         since=$(youngest "$library") || exit 3
-        if grep -q '"state":"refused"}$' "$work/reply" || ! agreed "send run $number over these changes? yes, show or no: "; then
-            rm -rf "$put"
-            exit 1
-        fi
+        if [ ! -s "$work/reply" ] && grep -q '^upd: [0-9]*: ' "$work/faults" && agreed "send run $number over these changes? yes, show or no: "; then continue; fi
+        rm -rf "$put" # it is refused, or not to be sent
+        exit 1
     done
 }
 
