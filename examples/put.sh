@@ -269,6 +269,7 @@ send() {
         cat "$work/faults" >&2
         if [ "$status" -eq 0 ]; then
             say "run $number of $sent_as is accepted"
+            tr ' ' '\n' <"$1/sets" >>"$work/ours"
             note_run "$1"
             return
         elif [ "$status" -ne 1 ]; then
@@ -292,6 +293,7 @@ send_all() {
             rm -rf "$put"
             exit 1
         fi
+        sed -n -e 's/^deck //p' -e 's/^part \([^ ]*\) .*/\1/p' "$put/list" >>"$work/ours"
         cat "$put/list" >>"$list" && rm -f "$put/spool" || exit 3
     fi
     for name in $(ls "$put" | grep '^[1-9][0-9]*$' | sort -n); do send "$put/$name"; done
@@ -326,7 +328,7 @@ is_plain || usage
 copy=$work/copy
 "$upd" backup -- "$library" "$copy" && "$upd" init "$work/empty" && "$upd" sites -- "$copy" >"$work/sites" || exit 3
 start=$(youngest "$copy") && list_decks >"$work/decks" || exit 3
-cp "$work/idents" "$work/held" && sh "$tree" "$copy" "$work/tree" <"$list" || [ $? -eq 1 ] || exit 3
+cp "$work/idents" "$work/held" && cp "$work/idents" "$work/before" && sh "$tree" "$copy" "$work/tree" <"$list" || [ $? -eq 1 ] || exit 3
 number=$(sed -n "s/^$site [0-9]* [0-9]* \\([^ ]*\\) .*/\\1/p" "$work/sites")
 number=${number:-1} run='' unfit=0 deck_count=0
 if [ "$number" = none ]; then
@@ -356,9 +358,11 @@ serial() {
     awk -v name="$1" '$2 == name && $NF != "purged" { print $1 }' "$work/held"
 }
 
-# Puts a deck's lines into the run that is made, or into the next one. Its cards, notes and file are kept with it.
+# Puts a deck's lines into the run that is made, or into the next one: a run is as of one ident, and else would meet earlier runs of
+# this script. The deck's cards, notes and file are kept with the run.
 add_deck() {
     deck=$1 since=$3
+    if [ -n "$run" ] && [ "$(cat "$run/since")" != "$since" ]; then run=''; fi
     [ -n "$run" ] || name_set
     correct_deck || return
     if [ -n "$run" ] && [ "$(cat "$run/run" "$work/part" | wc -l)" -gt 1999 ] || [ "$(cat ${run:+"$run/run"} "$work/part" | wc -c)" -gt 65400 ]; then
@@ -371,7 +375,6 @@ add_deck() {
         cat "$work/part" >>"$run/run" || exit 3
     else
         tail -n +2 "$work/part" >>"$run/run" || exit 3
-        if [ "$(serial "$since")" -lt "$(serial "$(cat "$run/since")")" ]; then printf '%s\n' "$since" >"$run/since"; fi
     fi
     keep_deck "$deck" "$2"
     say "$path, the deck $deck: $(($(wc -l <"$work/part") - 1)) lines of run ${run##*/}"
@@ -433,7 +436,9 @@ keep_deck() {
         && printf '%s\n' "$2" >"$item.path" && printf '%s\n' "$1" >"$item.deck" || exit 3
 }
 
-: >"$work/same" && : >"$work/others" && : >"$work/gone" || exit 3
+: >"$work/same" && : >"$work/others" && : >"$work/gone" && : >"$work/ours" && awk '
+    NR == FNR { if ($NF != "purged") serial[$2] = $1; next }
+    { print serial[$3] + 0, FNR, $0 }' "$work/held" "$work/decks" | sort -k 1,1n -k 2,2n | cut -d ' ' -f 3- >"$work/order" || exit 3
 if [ $# -gt 0 ]; then
     case $library in /*) ;; *) library=$(pwd)/$library ;; esac
     case $bring in /*) ;; *) bring=$(pwd)/$bring ;; esac
@@ -469,7 +474,7 @@ while read -r deck code since fit <&3; do
     esac
     "$upd" text-at -- "$copy" "$deck" "$since" >"$work/base" && { sed 1q "$work/base" && cat "$work/cards"; } >"$work/text" || exit 3
     add_deck "$deck" "$code" "$since"
-done 3<"$work/decks"
+done 3<"$work/order"
 [ "$unfit" -eq 0 ] || exit 1
 if [ -s "$work/gone" ]; then
     name_set
@@ -498,4 +503,17 @@ while read -r deck; do
     cp "$folder/$path" "$work/was" && refresh "$path" "$work/was" "$work/tree/$path"
 done <"$work/others"
 note_since "$work/others" "$start"
+
+# Where nobody else has sent anything meanwhile, each file is now as of the youngest ident.
+now=$(youngest "$library") || exit 3
+if awk '
+    FILENAME == ARGV[1] { ours[$1]; next }
+    FILENAME == ARGV[2] { was[FNR] = $0; next }
+    FNR in was ? $0 != was[FNR] : !($2 in ours) { other = 1 }
+    END { exit other }' "$work/ours" "$work/before" "$work/idents"; then
+    list_decks | while read -r deck code rest; do
+        if [ -e "$folder/$(printf '%b' "$code")" ]; then printf '%s\n' "$deck"; fi
+    done >"$work/same"
+    note_since "$work/same" "$now"
+fi
 exit "$result"
