@@ -8,7 +8,7 @@ ghost use Rattle.upd_core.specs.Library.{LibraryView};
 ghost use Rattle.upd_core.specs.Parts.{part_of};
 ghost use Rattle.upd_core.specs.Sound.{IsSound, IsWhole};
 ghost use Rattle.upd_records.specs.Rows.{Rows, Shows, ShowsStates};
-ghost use Rattle.upd_row_store.specs.Asked.{AreHomes, decks_with};
+ghost use Rattle.upd_row_store.specs.Asked.{AreHomes, ages_asked, decks_with};
 ghost use Rattle.upd_row_store.specs.Assembling.{AreRowsOf};
 ghost use Rattle.upd_row_store.specs.PartRows.{AreOfDistinctCards, part_rows};
 ghost use Rattle.upd_row_store.specs.Tables.{AreByKey, AreRead, AreReadOf};
@@ -27,8 +27,8 @@ use std::collections::BTreeMap;
 use upd_core::{Actives, CardRef, Library, Serial, States};
 use upd_records::LibraryRows;
 use upd_row_store::{
-    Homes, assembled, assembled_active, assembled_with_rest, by_age, decks_by_age, held_ages,
-    homes_by_age, states_by_key,
+    DeckOf, Homes, assembled, assembled_active, assembled_with_rest, by_age, deck_named,
+    decks_by_age, held_ages, homes_by_age, states_by_key,
 };
 
 /// The cards of a map with their statuses.
@@ -126,6 +126,26 @@ impl Mirror {
         };
         let library = assembled_with_rest(alloc, rows, cards, self.entry_count)?;
         Ok(library)
+    }
+
+    /// The age of the deck that is asked for, where there is one; memory alone can fail.
+    fn ages_asked(&self, alloc: Global, asked: &DeckOf) -> Result<Vec<Serial>, AllocError>
+        ensures { (rows : Rows) → Agrees self.now rows → (l : LibraryView) → IsSound l → Shows rows l
+            → IfOk result (λ found. found.items ≡ ages_asked asked.now l) }
+    {
+        match asked {
+            DeckOf::Named(name) => deck_named(alloc, &self.idents, name),
+            DeckOf::Holding(card) => self.decks_of(alloc, &[*card]),
+        }
+    }
+
+    /// The library with the deck that is asked for alone; memory alone can fail.
+    pub(crate) fn part_asked(&self, alloc: Global, asked: &DeckOf) -> Result<Library, AllocError>
+        ensures { (rows : Rows) → Agrees self.now rows → (l : LibraryView) → IsSound l → IsWhole l → Shows rows l
+            → IfOk result (λ found. found ≡ part_of (ages_asked asked.now l) l) }
+    {
+        let ages = self.ages_asked(alloc, asked)?;
+        self.part(alloc, &ages)
     }
 
     /// The number of cards; none where it is no number of 64 bits.

@@ -12,7 +12,7 @@ use crate::moved_idents::commit_below;
 use std::alloc::Global;
 use upd_core::{Actives, CardRef, Change, Library, Serial, States};
 use upd_records::{LibraryRows, RunRow};
-use upd_row_store::{Homes, Meaning, RowStore, reads_with};
+use upd_row_store::{DeckOf, Homes, Meaning, RowStore, reads_with};
 use upd_text::{Fault, FaultKind};
 
 /// A store that answers reads from its rows in memory, and writes to the store below.
@@ -176,6 +176,28 @@ impl<S: RowStore> RowStore for MirrorStore<S> {
             return Ok(library);
         }
         match self.inner.load_decks(alloc, decks) {
+            Ok(library) => {
+                self.is_live = true;
+                self.reads = reads_with(self.reads, &library);
+                Ok(library)
+            }
+            Err(fault) => {
+                self.is_live = false;
+                self.failures = failures_with(self.failures, &fault);
+                Err(fault)
+            }
+        }
+    }
+
+    fn load_deck_of(&mut self, alloc: Global, asked: &DeckOf) -> Result<Library, Fault> {
+        if self.is_live
+            && let Some(mirror) = &self.mirror
+        {
+            let library = mirror.part_asked(alloc, asked)?;
+            self.reads = reads_with(self.reads, &library);
+            return Ok(library);
+        }
+        match self.inner.load_deck_of(alloc, asked) {
             Ok(library) => {
                 self.is_live = true;
                 self.reads = reads_with(self.reads, &library);
