@@ -21,4 +21,4 @@ pub use ident_report::show;
 pub use library_page::{page, pages_need_nothing_outside};
 pub use printing::printed_texts_are_printable;
 pub use runs::run_lines;
-pub use sites::site_lines;
+pub use sites::{greatest_number_is_this, site_lines};

@@ -3,6 +3,7 @@
 ghost use Rattle.std.specs.Prelude.{◌≡◌, ◌∷◌, ◌++◌, decimal, map, IfOk, IsPermutation, OnOk};
 ghost use Rattle.upd_views.specs.SiteLines.{AreBySite, AreSiteLines, both, joined, lines_from, lines_of, next_number};
 ghost use Rattle.upd_views.specs.SiteLines.{of_mark, of_run, site_line};
+ghost use Rattle.upd_views.specs.declared.sites.TheConstants.{MAX_NUMBER};
 
 use crate::printing::push_field;
 use itoa::Buffer;
@@ -12,6 +13,11 @@ use upd_records::{MarkRow, RunRow};
 
 /// The greatest number of a run.
 const MAX_NUMBER: u64 = 999_999_999;
+
+/// The greatest number of a run, as a number.
+pub fn greatest_number_is_this()
+    ensures { MAX_NUMBER ≡ 999999999 }
+{}
 
 /// What is known of a site.
 #[derive(Debug, Drop)]

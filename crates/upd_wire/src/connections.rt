@@ -32,8 +32,11 @@ const FAREWELL: u64 = 1;
 /// that the client takes.
 const PIECE: usize = 65_536;
 
-/// How many reads of what a client still sends are discarded after an answer.
+/// How many reads of what a client still sends are discarded after an answer, where a clock ends them.
 const SURPLUS_READS: u32 = 4096;
+
+/// The same without a clock, where each read may take all of its time.
+const UNTIMED_SURPLUS_READS: u32 = 64;
 
 /// How many failures to accept a connection in a row end a server that has a clock.
 const MAX_FAILED_ACCEPTS: u32 = 100;
@@ -68,8 +71,8 @@ impl Listener<'_> {
 /// accepted.
 ///
 /// A client that sends or takes nothing for 4 seconds gets no complete answer. After an answer, what the client still
-/// sends is discarded until it closes the connection or sends nothing for 4 seconds, or for 1 second where its request
-/// was read to its end.
+/// sends is discarded, by 64 reads at most, until it closes the connection or sends nothing for 4 seconds, or for 1
+/// second where its request was read to its end.
 pub fn serve_on<S: RowStore>(
     alloc: Global,
     listener: &TcpListener,
@@ -202,7 +205,11 @@ fn end<C: Clock>(client: &mut Client<'_, C>, exchange: &Exchange) {
         let farewell = Some(Duration::from_secs(FAREWELL));
         let _ = client.stream.set_read_timeout(farewell);
     }
-    read_surplus(client);
+    let reads = match client.since {
+        Some(_) => SURPLUS_READS,
+        None => UNTIMED_SURPLUS_READS,
+    };
+    read_surplus(client, reads);
 }
 
 /// Limits how long each read and write of a connection may take, and reads the clock.
@@ -288,9 +295,9 @@ impl<C: Clock> Write for Client<'_, C> {
 
 /// Discards what a client still sends, up to a bound. If it stayed unread, closing the connection could discard the
 /// answer.
-fn read_surplus(client: &mut impl Read) {
+fn read_surplus(client: &mut impl Read, reads: u32) {
     let mut chunk = [0u8; 4096];
-    for _ in 0..SURPLUS_READS {
+    for _ in 0..reads {
         match client.read(&mut chunk) {
             Ok(0) | Err(_) => return,
             Ok(_) => {}
