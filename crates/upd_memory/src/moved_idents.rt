@@ -177,28 +177,60 @@ fn cards_behind(decks: &BTreeMap<Serial, Vec<CardRow>>, deck: &Serial, from: u32
     }
 }
 
-/// How many cards move at these changes, each as often as a change moves it.
-fn cards_moved(decks: &BTreeMap<Serial, Vec<CardRow>>, changes: &[Change]) -> usize {
-    let mut moved: usize = 0;
+/// How many moves of each deck there are.
+fn move_counts(alloc: Global, changes: &[Change]) -> Result<BTreeMap<Serial, usize>, AllocError> {
+    let mut counts = BTreeMap::new(alloc);
     for change in changes {
-        if let Change::CardsMoved { deck, from, .. } = change {
-            moved = moved.saturating_add(cards_behind(decks, deck, *from));
+        if let Change::CardsMoved { deck, .. } = change {
+            let before = counts.get(deck).copied().unwrap_or(0_usize);
+            counts.insert(*deck, before.saturating_add(1))?;
         }
     }
-    moved
+    Ok(counts)
 }
 
-/// Whether changes move the same cards so often that it costs less to look at all cards and to move each once.
-fn are_moved_often(alloc: Global, mirror: &Mirror, changes: &[Change]) -> Result<bool, AllocError> {
-    let mut once: usize = 0;
-    let places = moved_places(alloc, changes)?;
-    for (deck, from) in &places {
-        once = once.saturating_add(cards_behind(&mirror.decks, deck, *from));
+/// What a look at all cards costs, in cards that are written.
+fn scan_cost(mirror: &Mirror) -> usize {
+    mirror.homes.len() / 14
+}
+
+/// What moves cost by keys, in cards that are written: each card as often as it moves, and those to the front look at all.
+fn cost_by_keys(mirror: &Mirror, changes: &[Change]) -> usize {
+    let mut cost: usize = 0;
+    for change in changes {
+        if let Change::CardsMoved { deck, from, by } = change {
+            cost = cost.saturating_add(cards_behind(&mirror.decks, deck, *from));
+            if *by < 0 {
+                cost = cost.saturating_add(scan_cost(mirror));
+            }
+        }
     }
-    let limit = once
-        .saturating_mul(2)
-        .saturating_add(mirror.homes.len() / 16);
-    Ok(cards_moved(&mirror.decks, changes) > limit)
+    cost
+}
+
+/// What moves cost where the store below is not told which cards move, in cards that are written: where a deck has many,
+/// each card is read and written once; else each move looks at all cards.
+fn cost_at_once(alloc: Global, mirror: &Mirror, changes: &[Change]) -> Result<usize, AllocError> {
+    let counts = move_counts(alloc, changes)?;
+    let mut cost: usize = 0;
+    for (deck, from) in &moved_places(alloc, changes)? {
+        let behind = cards_behind(&mirror.decks, deck, *from);
+        let moves = counts.get(deck).copied().unwrap_or(0);
+        let (cards, scans) = if moves < 3 {
+            (behind.saturating_mul(moves), moves)
+        } else {
+            (behind.saturating_mul(2), 1)
+        };
+        cost = cost
+            .saturating_add(cards)
+            .saturating_add(scan_cost(mirror).saturating_mul(scans));
+    }
+    Ok(cost)
+}
+
+/// Whether cards move so often that it costs less to look at all cards and to move each once.
+fn are_moved_often(alloc: Global, mirror: &Mirror, changes: &[Change]) -> Result<bool, AllocError> {
+    Ok(cost_by_keys(mirror, changes) > cost_at_once(alloc, mirror, changes)?)
 }
 
 /// The idents of the cards that changes move; none where they aren't known, or where a look at all cards costs less.
