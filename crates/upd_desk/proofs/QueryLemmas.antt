@@ -41,6 +41,11 @@ of_held {P = P} shows image opened all j held = by (held opened)
     by : HoldsIn shows j image → P
     by (rows, shown, holds) = all (library_after j) (library_made j) rows shown holds.library
 
+-- what holds after a journal shows the library after it
+pub held_rows : {Image : Type 0} (shows : Image → Rows → Type 0) (image : Image) (j : Journal) → HoldsIn shows j image
+    → (rows : Rows) × shows image rows × Shows rows (library_after j)
+held_rows shows image j (rows, shown, holds) = (rows, shown, holds.library)
+
 module _ {S : Type 0} {meaning : Ghosts S} where
   open meaning use {shows, image, is_open, is_honest}
 
