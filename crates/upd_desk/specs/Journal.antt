@@ -1,6 +1,6 @@
 -- The journal of a desk, and what the desk owes after it: the library, the stored replies, the marks, and the answer to what comes next.
-use Rattle.std.specs.Prelude.{◌≡◌, ℕ, ◌==◌, nat_lt, nat_le, max, Bool, false, not, ◌&&◌, if◌then◌else◌, List, [], ◌∷◌, ◌++◌, Option, Some, None}
-use Rattle.std.specs.Prelude.{Result, Ok, Err}
+use Rattle.std.specs.Prelude.{◌≡◌, ℕ, ◌==◌, nat_lt, nat_le, max, Bool, false, not, ◌&&◌, ◌||◌, if◌then◌else◌, List, [], ◌∷◌, ◌++◌, Option, Some, None}
+use Rattle.std.specs.Prelude.{is_some, Result, Ok, Err}
 use Rattle.std.specs.Str.{bytes_eq}
 use Rattle.std.specs.List.{list_any, find}
 use Rattle.upd_text.specs.declared.fault.Fault.{Fault}
@@ -121,6 +121,10 @@ answered (h ∷ earlier) = run_of h (outcome_of h (made_by earlier)).reply ∷ a
 -- what is kept under a key: the first arrival of it with its reply, as long as it isn't settled
 abbrev pub kept : Journal → List ℕ → ℕ → Option RunView
 kept journal site number = if nat_le number (mark journal site) then None else find (is_run site number) (answered (distinct journal))
+
+-- whether a key has been used: its number is settled, or its run is kept
+abbrev pub is_known : Journal → List ℕ → ℕ → Bool
+is_known journal site number = nat_le number (mark journal site) || is_some (kept journal site number)
 
 -- ---- answers
 

@@ -10,6 +10,7 @@ ghost use Rattle.upd_desk.specs.Holding.{Arrives, EachHeld, EndsInReply, LooksAt
 ghost use Rattle.upd_desk.specs.Holding.{AreArrivalFaults, IsArrivalFault, IsSettlementFault, IsUnadmitted};
 ghost use Rattle.upd_desk.specs.Holding.{AnswersArrival, LeavesQuery, ReadsNeededByAll, RunAll, Settles, Tells, failures_after_all, work_after_all};
 ghost use Rattle.upd_desk.specs.Queries.{IsMiss, decks_asked, listing};
+ghost use Rattle.upd_desk.specs.Journal.{is_known};
 ghost use Rattle.upd_desk.specs.Outcomes.{IsFileFault};
 ghost use Rattle.upd_row_store.specs.Keeping.{CountsFailure, IsLost, reads_after};
 ghost use Rattle.upd_text.specs.Faults.{fault_at};
@@ -17,6 +18,7 @@ ghost use Rattle.upd_text.specs.declared.fault.FaultKind.TheVariants.{CardUnknow
 
 use crate::arrival::Arrival;
 use crate::arrive::arrive_at;
+use crate::known_keys::is_known_at;
 use crate::library_queries::{Query, list, load_listed};
 use crate::reply::Reply;
 use crate::settlement::settle_at;
@@ -158,6 +160,21 @@ impl<S: RowStore> Desk<S> {
     {
         match settle_at(&mut self.store, alloc, site, number) {
             Ok(mark) => Ok(mark),
+            Err(fault) => Err(fault),
+        }
+    }
+
+    /// Whether a run under this key would be a repeat, RunChanged or Settled: its number is settled, or has a stored run. The
+    /// site and the number aren't checked. After NoMemory or Store, at 0, it can be asked again.
+    pub fn is_known(&mut self, alloc: Global, site: &str, number: u64) -> Result<bool, Fault>
+        ensures known { EachHeld S.Meaning self.old.store self.new.store
+            (λ journal. IfOk result (λ known. known ≡ is_known journal site.now number)) }
+        ensures unread { S.decks_read_of self.new.store ≡ S.decks_read_of self.old.store }
+        ensures lost { IfErr result IsLost }
+        ensures leaves { LeavesQuery S.Meaning result self.old.store self.new.store self.old.work self.new.work }
+    {
+        match is_known_at(&mut self.store, alloc, site, number) {
+            Ok(known) => Ok(known),
             Err(fault) => Err(fault),
         }
     }

@@ -11,6 +11,7 @@ pub mod arrival;
 mod arrive;
 pub mod desk;
 pub mod desk_laws;
+mod known_keys;
 mod library_queries;
 mod mark;
 mod outcome;
