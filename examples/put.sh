@@ -5,7 +5,7 @@
 #
 # LIST and FOLDER are as bring.sh or `tree.sh --list` made them. Each file of LIST that is not as the library has it is corrected
 # in its deck, against the deck as it was when LIST was noted: so what others have sent meanwhile stays. It then comes into FOLDER,
-# too. So let FOLDER be a tree of yours, or a release whose decks nobody else corrects. NEW are files in FOLDER that become decks, by
+# too. Only a purge isn't seen: what a file that you changed still has of the purged cards is put in again. So let FOLDER be a tree of yours, or a release whose decks nobody else corrects. NEW are files in FOLDER that become decks, by
 # bring.sh. FILE is the library; no command may have it open. The runs are the next ones of SITE, and their sets are named by SITE
 # and the run's number, as LYON7. A file that needs more lines than a run has is corrected by several. UPD is the program (`upd`
 # unless it is set).
@@ -13,7 +13,7 @@
 # What each run corrects is shown before you are asked. A run is sent by `upd run-at`: where others have changed the same lines
 # meanwhile it is not stored, and you are asked again.
 #
-#     --c           all files are made to fit as by bring.sh, also where LIST doesn't say so
+#     --c           all files are made to fit as by bring.sh, also where LIST doesn't say so yet
 #     --gone        takes the decks out of use whose files are gone from FOLDER, and removes them from LIST
 #     --yes         sends the runs without asking, but where others have changed the same lines
 #     --mode MODE   the mode of the runs: full, normal, or quick, which it is else
@@ -233,7 +233,7 @@ note_run() {
             replace_section "$deck" /dev/null
             continue
         fi
-        section "$deck" >"$work/section" && "$upd" list -- "$work/after" "$deck" >"$work/listing" || exit 3
+        { section "$deck" | sed '/^fit /d' && if [ -s "$item.fit" ]; then echo 'fit c'; fi; } >"$work/section" && "$upd" list -- "$work/after" "$deck" >"$work/listing" || exit 3
         sed -n '1!s/^A [^ ]* //p' "$work/listing" | sed 1d >"$work/active"
         diff -U 0 "$work/active" "$item.cards" >"$work/hunks"
         new_section "$deck" "$now" "$(cat "$1/sets")" "$(mode_of "$item.file")" \
@@ -433,7 +433,7 @@ keep_deck() {
     deck_count=$((deck_count + 1))
     item=$run/$deck_count
     cp "$folder/$path" "$item.file" && cp "$work/cards" "$item.cards" && cp "$work/notes" "$item.notes" \
-        && printf '%s\n' "$2" >"$item.path" && printf '%s\n' "$1" >"$item.deck" || exit 3
+        && printf '%s' "${c:-$fit}" >"$item.fit" && printf '%s\n' "$2" >"$item.path" && printf '%s\n' "$1" >"$item.deck" || exit 3
 }
 
 : >"$work/same" && : >"$work/others" && : >"$work/gone" && : >"$work/ours" && awk '
