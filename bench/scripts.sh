@@ -1,5 +1,5 @@
 #!/bin/sh
-# Tries the scripts of examples/ under each shell and each awk that is installed, of dash, bash, busybox, ksh93, yash, mawk, gawk and original-awk.
+# Tries the scripts of examples/ under each shell and each awk that is installed, of dash, bash, busybox, ksh93, mawk, gawk and original-awk.
 #
 #     bench/scripts.sh [EXECUTABLE]     crates/upd/out/upd, unless another one is named
 #
@@ -171,7 +171,7 @@ try_tools() {
 }
 
 old_path=$PATH count=0
-for shell in dash bash 'busybox sh' ksh93 yash; do
+for shell in dash bash 'busybox sh' ksh93; do
     if command -v "${shell% *}" >"$work/found"; then try_tools "$(command -v "${shell% *}")${shell#"${shell% *}"}" "$(command -v mawk || command -v awk)"; fi
 done
 for awk in gawk 'busybox awk' original-awk; do
