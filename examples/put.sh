@@ -101,7 +101,7 @@ youngest() {
 # The decks of LIST: name, path, SINCE and how the file was made to fit, one a line.
 list_decks() {
     awk '
-        function end() { if (deck != "") print deck, path, since == "" ? "-" : since, fit }
+        function end() { if (deck != "") print deck, path, (since == "" ? "-" : since), fit }
         $1 == "deck" { end(); deck = $2; path = since = fit = "" }
         $1 == "path" { path = path $2 }
         $1 == "since" { since = $2 }
