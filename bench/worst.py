@@ -3,7 +3,7 @@
 
     python3 bench/worst.py [--executable FILE] [--part P]
 
-Three libraries are built: 39,800 cards for insertions, 49,000 cards of 37 pairs of sets whose cards alternate, and a deck of 50,000 cards. --part says
+Three libraries are built: 39,800 cards for insertions, 49,000 cards of 37 pairs of sets whose cards alternate, and a deck of 49,999 cards. --part says
 which part of these sizes to take (1 unless it is said; 0.1 is a tenth, for a quick look). Each line of the table is one run on a copy of its library, as a
 command and in a spool: the processor time of each, the spool's without that of a spool with one insertion at the end. The exit status is 1 where one
 is past its budget, which is for part 1; an insertion at many places, and its purge, also may take no more than three times what one place takes.
@@ -108,7 +108,7 @@ def cases(upd, folder, part):
     file = made(upd, folder, "alternating.db", alternating(pairs))
     least = text(["*IDENT W", f"*INSERT P{pairs}.665", "      NEW"])
     yield f"a purge of {pairs} sets at {665 * pairs:,} places of {1330 * pairs + 2:,} cards", file, purge(sets), least, 4, 4
-    cards = int(50_000 * part)
+    cards = int(49_999 * part)  # one less than a library has room for: the least run adds one
     file = made(upd, folder, "deck.db", grown(cards))
     yield f"`*PURDECK` of {cards:,} cards", file, text(["*PURDECK A"]), text(["*IDENT W", f"*INSERT {card_of(cards)}", "      NEW"]), 2, 2
 
