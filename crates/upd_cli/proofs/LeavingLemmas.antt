@@ -94,7 +94,7 @@ untouched_frames input output faults command fault failed unread unwritten quiet
 pub front_all : (command : Command) (old mid new : Option (List ℕ)) → TakesFront (most_read command) old mid → (¬ (ReadsFirst command) → mid ≡ old)
     → (¬ (HandsRuns command) → new ≡ mid) → (¬ (IsSpool command) → TakesFront (MAX_RUN_BYTES + 1) mid new) → ¬ (IsSpool command)
     → TakesFront (most_read command) old new
-front_all (Run site number mode) old mid new first none waits front other =
+front_all (Run site number mode since) old mid new first none waits front other =
     subst (λ i. TakesFront (MAX_RUN_BYTES + 1) i new) (none (λ no. no)) (front other)
 front_all Spool old mid new first none waits front other = absurd (other tt)
 front_all (Settle site number) old mid new first none waits front other = subst (TakesFront (MAX_RUN_BYTES + 1) old) (sym (waits (λ no. no))) first

@@ -26,7 +26,7 @@ ending_of status output faults = ending status (before output) (after output) (b
 
 -- before runs are handed in the rows are read into memory
 abbrev pub Begins : {S : Type 0} → Ghosts S → Command → S → S → Type 0
-Begins meaning (Run site number mode) old begun = IsWarmed meaning old begun
+Begins meaning (Run site number mode since) old begun = IsWarmed meaning old begun
 Begins meaning Spool old begun = IsWarmed meaning old begun
 Begins meaning (Try mode since) old begun = IsWarmed meaning old begun
 Begins meaning (Serve endpoint count) old begun = IsWarmed meaning old begun

@@ -6,7 +6,7 @@ use Rattle.sqlite.specs.declared.error.ErrorCode.TheVariants as code
 use Rattle.sqlite.specs.declared.error.Error.{Error}
 use Rattle.sqlite.specs.declared.error.Error.TheVariants.{SqliteFailure}
 use Rattle.upd_keep.specs.declared.situation.Situation.{Situation}
-use Rattle.upd_keep.specs.declared.situation.Situation.TheVariants.{LogAlone, NoFile, Folder, NotRegular, SecondName, OpenFolder, ForeignLog, Empty}
+use Rattle.upd_keep.specs.declared.situation.Situation.TheVariants.{LogAlone, NoFile, NoTarget, Folder, NotRegular, SecondName, OpenFolder, ForeignLog, ClosedLog, Empty}
 use Rattle.upd_keep.specs.declared.situation.Situation.TheVariants.{NotSqlite, NoPermission, ReadOnly, CannotOpen, InUse, Damaged, BreaksRules, NotLibrary}
 use Rattle.upd_keep.specs.declared.situation.Situation.TheVariants.{OlderSchema, OtherTables, Unreadable, NewerSchema}
 
@@ -14,11 +14,13 @@ use Rattle.upd_keep.specs.declared.situation.Situation.TheVariants.{OlderSchema,
 abbrev pub words_of : Situation → List ℕ
 words_of LogAlone = codes "no file, or an empty one, beside a log, FILE-wal, with commits of a library: put the file of that log back, or move the log away"
 words_of NoFile = codes "there is no such file: check the path; `upd init` makes a library"
+words_of NoTarget = codes "this is a link to a file that isn't there: check where it leads"
 words_of Folder = codes "this is a folder, not a file: check the path"
 words_of NotRegular = codes "this is no regular file: check the path"
 words_of SecondName = codes "the file has a second name, a hard link: remove that name, or make it a copy"
 words_of OpenFolder = codes "everybody may write its folder, and so put another file or log there: `chmod o-w` or `chmod +t` on the folder"
 words_of ForeignLog = codes "the log beside it, FILE-wal, is another user's, who may be at work: let that user run `upd spool FILE </dev/null`, or move it away"
+words_of ClosedLog = codes "the log beside it, FILE-wal, can't be opened: let the user read and write it; a folder or a link there must go"
 words_of Empty = codes "the file is empty: `upd init` makes a library in it"
 words_of NotSqlite = codes "this is not a database of SQLite: check the path"
 words_of NoPermission = codes "no permission to read it: let the user read and write the file and its folder"

@@ -6,6 +6,7 @@
 
 mod all_rows;
 mod copying;
+mod crash_law;
 mod file_examination;
 mod looking_at;
 mod other_tables;
@@ -17,6 +18,7 @@ mod stored_replies;
 mod versions;
 
 pub use copying::{backup, whole_copy};
+pub use crash_law::crash_after_arrival;
 pub use file_examination::{Examined, Report, examine, examine_tables};
 pub use replaying::{Replayed, replay_tables};
 pub use run_reads::{Listed, list_text, list_text_below, stored_kept};

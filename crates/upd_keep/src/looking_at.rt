@@ -7,7 +7,7 @@ use std::fs::OpenOptions;
 use std::io::{ErrorKind, Read};
 use std::os::unix::fs::MetadataExt;
 use std::{fs, io};
-use upd_store::{is_foreign_log, is_log_alone, is_open_folder};
+use upd_store::{is_closed_log, is_foreign_log, is_log_alone, is_open_folder};
 
 /// The first bytes of each file of SQLite.
 const FIRST_BYTES: &[u8; 16] = b"SQLite format 3\0";
@@ -28,9 +28,11 @@ pub(crate) fn situation_at(rt: &HostRuntime, path: &str) -> Option<Situation> {
     }
 }
 
-/// The situation of a path that can't be looked at: in a folder that everybody may write `init` makes no file either.
+/// The situation of a path that can't be looked at: `init` makes no file where a link leads, nor in a folder that everybody
+/// may write.
 fn of_missing(rt: &HostRuntime, path: &str, situation: Situation) -> Situation {
     match situation {
+        Situation::NoFile if fs::symlink_metadata(rt, path).is_ok() => Situation::NoTarget,
         Situation::NoFile if is_open_folder(rt, path).unwrap_or(false) => Situation::OpenFolder,
         _ => situation,
     }
@@ -46,6 +48,7 @@ fn kind_of(rt: &HostRuntime, path: &str) -> io::Result<Option<Situation>> {
             Some(Situation::OpenFolder)
         }
         None if is_foreign_log(rt, path).unwrap_or(false) => Some(Situation::ForeignLog),
+        None if is_closed_log(rt, path).unwrap_or(false) => Some(Situation::ClosedLog),
         _ => kind,
     })
 }

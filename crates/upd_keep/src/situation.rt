@@ -9,11 +9,13 @@ use upd_text::{Fault, FaultKind};
 pub enum Situation {
     LogAlone,
     NoFile,
+    NoTarget,
     Folder,
     NotRegular,
     SecondName,
     OpenFolder,
     ForeignLog,
+    ClosedLog,
     Empty,
     NotSqlite,
     NoPermission,
@@ -40,6 +42,8 @@ impl Situation {
             }
             Situation::NoFile =>
                 "there is no such file: check the path; `upd init` makes a library",
+            Situation::NoTarget =>
+                "this is a link to a file that isn't there: check where it leads",
             Situation::Folder => "this is a folder, not a file: check the path",
             Situation::NotRegular => "this is no regular file: check the path",
             Situation::SecondName => {
@@ -50,6 +54,9 @@ impl Situation {
             }
             Situation::ForeignLog => {
                 "the log beside it, FILE-wal, is another user's, who may be at work: let that user run `upd spool FILE </dev/null`, or move it away"
+            }
+            Situation::ClosedLog => {
+                "the log beside it, FILE-wal, can't be opened: let the user read and write it; a folder or a link there must go"
             }
             Situation::Empty => "the file is empty: `upd init` makes a library in it",
             Situation::NotSqlite => "this is not a database of SQLite: check the path",

@@ -122,3 +122,53 @@ module _ {S : Type 0} (store : Ghosts S) (a b : S) (tree : ℕ) {X : Type 0} (ro
           quiet = quiet_then store h.quiet quiet;
           found = λ _. tt;
         }
+
+module _ {S : Type 0} (store : Ghosts S) (a b : S) where
+  -- a walk that keeps nothing has begun
+  pub record Looks : Type 0 where
+    pub live : IsSome ((store.view b).cursors 0)
+    pub same : IsClean (store.view b) → OnlyReads (store.view a) (store.view b)
+    pub sound : IsClean (store.view b) → (store.view a).is_broken ≡ false
+    pub schema : KeepsSchema (store.view a) (store.view b)
+    pub quiet : IsQuiet store.view store.faults store.recovers store.is_shielded a b
+
+  module _ (h : Looks) (c : S) (quiet : IsQuiet store.view store.faults store.recovers store.is_shielded b c)
+      (schema : KeepsSchema (store.view b) (store.view c)) (moves : IsClean (store.view c) → OnlyReads (store.view b) (store.view c))
+    where
+      first : IsClean (store.view c) → IsClean (store.view b)
+      first clean = omega (arith, clean, quiet.clean)
+
+      all : IsClean (store.view c) → OnlyReads (store.view a) (store.view c)
+      all clean = only_reads_then (store.view a) (store.view b) (store.view c) (h.same (first clean)) (moves clean)
+
+      pub ends_look : (r : Result (Unit {0}) StoreError) → Finds store a c (λ it x. Unit {0}) r
+      ends_look (Ok x) = record {
+        same = all;
+        sound = λ clean. h.sound (first clean);
+        err = λ _. tt;
+        schema = schema_then store h.schema schema;
+        quiet = quiet_then store h.quiet quiet;
+        found = λ _ _ _. tt;
+      }
+      ends_look (Err e) = record {
+        same = λ _. tt;
+        sound = λ _. tt;
+        err = λ clean. read_fails (store.view a) (store.view c) e (all clean);
+        schema = schema_then store h.schema schema;
+        quiet = quiet_then store h.quiet quiet;
+        found = λ _. tt;
+      }
+
+module _ {S : Type 0} (store : Ghosts S) (a b c : S) where
+  pub looks_on : Looks store a b → IsQuiet store.view store.faults store.recovers store.is_shielded b c
+      → KeepsSchema (store.view b) (store.view c) → (IsClean (store.view c) → OnlyReads (store.view b) (store.view c))
+      → StayLive (store.view b) (store.view c) → Looks store a c
+  looks_on h quiet schema moves stay =
+      let early : IsClean (store.view c) → IsClean (store.view b) = λ clean. omega (arith, clean, quiet.clean) in
+      record {
+        live = stay 0 h.live;
+        same = λ clean. only_reads_then (store.view a) (store.view b) (store.view c) (h.same (early clean)) (moves clean);
+        sound = λ clean. h.sound (early clean);
+        schema = schema_then store h.schema schema;
+        quiet = quiet_then store h.quiet quiet;
+      }

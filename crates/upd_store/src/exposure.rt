@@ -1,8 +1,9 @@
 //! Who else could put commits into a library: by the log beside its file, or by another file or log in their place.
 //!
 //! Only paths are asked, before the file is opened.
+ghost use Rattle.std.specs.Prelude.{◌≡◌, ◌⊎◌, IsTrue};
 
-use crate::log_file::{has_frames, log_path, real_path};
+use crate::log_file::{is_missing, log_path, real_path};
 use std::os::unix::fs::MetadataExt;
 use std::path::Path;
 use std::{fs, io};
@@ -25,9 +26,14 @@ pub(crate) fn is_exposed(rt: &HostRuntime, path: &str) -> io::Result<bool> {
 pub fn is_open_folder(rt: &HostRuntime, path: &str) -> io::Result<bool> {
     let real = real_path(rt, path)?;
     let mode = fs::metadata(rt, folder_of(real.as_str()))?.mode();
-    Ok(mode & ALL_WRITE != 0 && mode & STICKY == 0)
+    Ok(is_open_mode(mode))
 }
 
+fn is_open_mode(mode: u32) -> bool {
+    mode & ALL_WRITE != 0 && mode & STICKY == 0
+}
+
+/// The folder of a file: the current one for a bare name.
 fn folder_of(path: &str) -> &str {
     match Path::new(path).parent() {
         Some(folder) if !folder.as_str().is_empty() => folder.as_str(),
@@ -35,24 +41,40 @@ fn folder_of(path: &str) -> &str {
     }
 }
 
-/// Whether the log beside a file has frames, and its owner is neither root, nor the file's owner, nor the user that runs
-/// this process. An error where there is such a log and no file.
+/// Whether the owner of the log beside a file is neither root, nor the file's owner, nor the user that runs this process,
+/// who would be the owner of a file that is missing.
 pub fn is_foreign_log(rt: &HostRuntime, path: &str) -> io::Result<bool> {
-    if !has_frames(rt, path)? {
+    let own = own_user(rt);
+    let Some(owner) = owner_of(rt, log_path(rt, path)?.as_str())? else {
         return Ok(false);
-    }
-    let log = log_path(rt, path)?;
-    let (owner, of_file) = (
-        fs::metadata(rt, log.as_str())?.uid(),
-        fs::metadata(rt, path)?.uid(),
-    );
-    Ok(owner != ROOT && owner != of_file && !is_own(rt, owner))
+    };
+    let of_file = owner_of(rt, path)?.unwrap_or(own);
+    Ok(is_foreign(owner, of_file, own))
 }
 
-/// Whether this is the number of the user that runs this process. False where the system has no `/proc`.
-fn is_own(rt: &HostRuntime, user: u32) -> bool {
-    match fs::metadata(rt, "/proc/self") {
-        Ok(found) => found.uid() == user,
-        Err(_) => false,
+/// Whether the file at a path is another user's than the one that runs this process. False where there is no file.
+pub(crate) fn is_foreign_file(rt: &HostRuntime, path: &str) -> io::Result<bool> {
+    let own = own_user(rt);
+    Ok(owner_of(rt, path)?.unwrap_or(own) != own)
+}
+
+fn is_foreign(owner: u32, of_file: u32, own: u32) -> bool
+    ensures trusted { (owner ≡ 0) ⊎ (owner ≡ of_file) ⊎ (owner ≡ own) → ¬ IsTrue result }
+    ensures foreign { ¬ ((owner ≡ 0) ⊎ (owner ≡ of_file) ⊎ (owner ≡ own)) → IsTrue result }
+{
+    owner != ROOT && owner != of_file && owner != own
+}
+
+/// The number of the user that runs this process; root's where the system has no `/proc`.
+fn own_user(rt: &HostRuntime) -> u32 {
+    fs::metadata(rt, "/proc/self").map_or(ROOT, |found| found.uid())
+}
+
+/// The owner of what is at a path; None where nothing is.
+fn owner_of(rt: &HostRuntime, path: &str) -> io::Result<Option<u32>> {
+    match fs::metadata(rt, path) {
+        Ok(found) => Ok(Some(found.uid())),
+        Err(error) if is_missing(error.kind()) => Ok(None),
+        Err(error) => Err(error),
     }
 }

@@ -9,7 +9,9 @@ ghost use Rattle.sqlite.specs.Files.{HoldsDatabase, file_state};
 ghost use Rattle.sqlite.specs.Held.{state};
 ghost use Rattle.sqlite.specs.Start.{FindsIn};
 ghost use Rattle.sqlite.specs.State.{HasCleanDisk, Survives};
+ghost use Rattle.sqlite_store.specs.FileStore.{view};
 ghost use Rattle.sqlite_trees.specs.Tree.{Trees};
+ghost use Rattle.sqlite_trees.specs.View.{IsClean};
 ghost use Rattle.sqlite_wal.specs.Files.{image_at};
 ghost use Rattle.sqlite_wal.specs.Reads.{AreClean};
 ghost use Rattle.upd_row_store.specs.Keeping.{IsLost};
@@ -18,8 +20,9 @@ ghost use Rattle.upd_sql.specs.Schema.{library_schema, no_schema};
 ghost use Rattle.upd_sql.specs.LibraryTables.{ShowsTables};
 ghost use Rattle.upd_store.specs.Beginning.{MayBegin};
 ghost use Rattle.upd_store.specs.Faults.{IsUnopened};
+ghost use Rattle.upd_store.specs.OpenedAgain.{OpensAgain, OpensAs};
 
-use crate::exposure::is_exposed;
+use crate::exposure::{is_exposed, is_foreign_file};
 use crate::log_file::is_log_alone;
 use crate::sql_store::SqlStore;
 use crate::store_faults::{fault_of, no_memory, store_at};
@@ -68,9 +71,9 @@ impl<S: Start> SqlStore<FileStore<FileFrom<S>>> {
 
 /// Makes an empty library in a file, and the file where it doesn't exist, with mode 0600. Where the file has any table the fault is Store,
 /// at the version in the file, 0 where it has none, and no byte of it is changed. An empty file, or one in which this
-/// call was cut off, counts as no file. Where there is no file and the log beside the path has frames, and where another
-/// user could put commits into the library (`exposure`), the fault is Store at 0, and no byte changes. Out of memory is
-/// NoMemory at 0.
+/// call was cut off, counts as no file. Where there is no file and the log beside the path has frames, where the file is
+/// another user's, where another user could put commits into the library (`exposure`), and where no such file can be made,
+/// the fault is Store at 0, and no byte changes. Out of memory is NoMemory at 0.
 pub fn create<S: Start>(rt: &HostRuntime, path: &str, start: S) -> Result<FileLibrary<S>, Fault>
     ensures shows { IfOk result (λ s. HasCleanDisk (file_state s.conn)
         → IsTrue (file_state s.conn).is_open × ShowsTables no_rows (file_state s.conn).committed) }
@@ -81,7 +84,7 @@ pub fn create<S: Start>(rt: &HostRuntime, path: &str, start: S) -> Result<FileLi
 {
     spare_log(rt, path)?;
     refuse_exposed(rt, path)?;
-    make_private(rt, path);
+    make_private(rt, path)?;
     let conn = connect_or_make(rt, path, false, start)?;
     match initialized(conn) {
         Ok(store) => Ok(store),
@@ -95,16 +98,19 @@ fn spare_log(rt: &HostRuntime, path: &str) -> Result<(), Fault>
 {
     match is_log_alone(rt, path) {
         Ok(false) => Ok(()),
-        Err(error) if error.kind() == io::ErrorKind::OutOfMemory => Err(no_memory()),
-        _ => Err(store_at(0)),
+        Ok(true) => Err(store_at(0)),
+        Err(error) => Err(file_fault(error)),
     }
 }
 
-/// Store at 0 where another user could put commits into the library at a path. Where that can't be found out, the open that
-/// follows says why.
-fn refuse_exposed(rt: &HostRuntime, path: &str) -> Result<(), Fault>
+/// Store at 0 where a path isn't a file's name, and where another user could put commits into the library there. Where that
+/// can't be found out, the open that follows says why.
+pub(crate) fn refuse_exposed(rt: &HostRuntime, path: &str) -> Result<(), Fault>
     ensures lost { IfErr result IsLost }
 {
+    if is_no_path(path) {
+        return Err(store_at(0));
+    }
     match is_exposed(rt, path) {
         Ok(true) => Err(store_at(0)),
         Err(error) if error.kind() == io::ErrorKind::OutOfMemory => Err(no_memory()),
@@ -112,20 +118,53 @@ fn refuse_exposed(rt: &HostRuntime, path: &str) -> Result<(), Fault>
     }
 }
 
-/// Makes an empty file that only its owner may read and write, where there is none. Where that fails, the open that
-/// follows says why.
-fn make_private(rt: &HostRuntime, path: &str) {
-    let _ = OpenOptions::new()
+/// Makes an empty file that only its owner may read and write, where there is none. Where that fails, and where there is a file
+/// of another user, the fault is Store at 0.
+fn make_private(rt: &HostRuntime, path: &str) -> Result<(), Fault>
+    ensures lost { IfErr result IsLost }
+{
+    let made = OpenOptions::new()
         .write(true)
         .create_new(true)
         .mode(0o600)
         .open(rt, path);
+    match made {
+        Ok(_) => Ok(()),
+        Err(error) if error.kind() == io::ErrorKind::AlreadyExists => refuse_foreign(rt, path),
+        Err(error) => Err(file_fault(error)),
+    }
+}
+
+/// Store at 0 where the file at a path is another user's, who could read and change what is put into it.
+fn refuse_foreign(rt: &HostRuntime, path: &str) -> Result<(), Fault>
+    ensures lost { IfErr result IsLost }
+{
+    match is_foreign_file(rt, path) {
+        Ok(false) => Ok(()),
+        Ok(true) => Err(store_at(0)),
+        Err(error) => Err(file_fault(error)),
+    }
+}
+
+/// Whether SQLite reads a path as something else than a file's name.
+pub(crate) fn is_no_path(path: &str) -> bool {
+    path == ":memory:" || path.starts_with("file:")
+}
+
+/// Out of memory is NoMemory, any other error of a file a failure of the store.
+fn file_fault(error: io::Error) -> Fault
+    ensures lost { IsLost result }
+{
+    match error.kind() {
+        io::ErrorKind::OutOfMemory => no_memory(),
+        _ => store_at(0),
+    }
 }
 
 // Each function that names a file's store where another takes any store is dear to prove. So each has one such call.
 
 /// The library of a connection. The connection is let go with a fault.
-fn adopted<S: Rising + Drop>(conn: Connection<S>) -> Result<SqlStore<S>, Fault>
+pub(crate) fn adopted<S: Rising + Drop>(conn: Connection<S>) -> Result<SqlStore<S>, Fault>
     ensures ours { IfOk result (λ s. HasCleanDisk (state S.Store s.conn) → IsTrue (state S.Store s.conn).is_open
         → (state S.Store s.conn).committed.schema ≡ library_schema) }
     ensures same { IfOk result (λ s. HasCleanDisk (state S.Store s.conn) → IsTrue (state S.Store s.conn).is_open
@@ -159,6 +198,8 @@ fn initialized<S: Rising + Drop>(conn: Connection<S>) -> Result<SqlStore<S>, Fau
 /// its log together are the library as before, and the next open finds it.
 pub fn close<D: Disk + Drop>(library: SqlStore<FileStore<D>>) -> Result<Files<D>, Fault>
     ensures copied { IfOk result (λ files. AreClean D.Disk files.log files.db → IsCopied library.conn files) }
+    ensures opens { IfOk result (λ files. AreClean D.Disk files.log files.db
+        → OpensAs D.Disk files (file_state library.conn).committed.trees) }
     ensures lost { IfErr result IsLost }
 {
     match library.into_connection().close_files() {
@@ -168,6 +209,14 @@ pub fn close<D: Disk + Drop>(library: SqlStore<FileStore<D>>) -> Result<Files<D>
             Err(fault_of(error))
         }
     }
+}
+
+/// Lets a library go as a crash does: its log isn't copied. Returns the store of its files. Nothing is written.
+pub fn stopped<D: Disk + Drop>(library: SqlStore<FileStore<D>>) -> FileStore<D>
+    ensures opens { IsClean (view result) → OpensAgain (file_state library.conn).may_leave result }
+    ensures clean { IsClean (view result) → HasCleanDisk (file_state library.conn) }
+{
+    library.into_connection().into_store()
 }
 
 /// A connection to a file of SQLite, whatever its tables are. Where it is not such a file, or where another user could put

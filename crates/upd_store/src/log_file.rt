@@ -1,5 +1,6 @@
 //! The log beside a library's file, as far as it shows without opening either.
 
+use std::fs::OpenOptions;
 use std::io::ErrorKind;
 use std::{fs, io};
 
@@ -14,6 +15,24 @@ pub fn has_frames(rt: &HostRuntime, path: &str) -> io::Result<bool> {
 /// The path of the log beside a file.
 pub(crate) fn log_path(rt: &HostRuntime, path: &str) -> io::Result<String> {
     Ok(format!(in rt.alloc(); "{}-wal", real_path(rt, path)?.as_str())?)
+}
+
+/// Whether what is at the place of the log beside a file can't be opened as one: it is no regular file, or the user may not
+/// read and write it.
+pub fn is_closed_log(rt: &HostRuntime, path: &str) -> io::Result<bool> {
+    let log = log_path(rt, path)?;
+    match fs::symlink_metadata(rt, log.as_str()) {
+        Ok(found) if found.is_file() => {
+            let opened = OpenOptions::new()
+                .read(true)
+                .write(true)
+                .open(rt, log.as_str());
+            Ok(opened.is_err())
+        }
+        Ok(_) => Ok(true),
+        Err(error) if is_missing(error.kind()) => Ok(false),
+        Err(error) => Err(error),
+    }
 }
 
 /// Whether there is no file at a path, or an empty one, and the log beside it has frames. They are of a library that was
@@ -44,6 +63,6 @@ fn length_of(rt: &HostRuntime, path: &str) -> io::Result<u64> {
     }
 }
 
-fn is_missing(kind: ErrorKind) -> bool {
+pub(crate) fn is_missing(kind: ErrorKind) -> bool {
     kind == ErrorKind::NotFound || kind == ErrorKind::NotADirectory
 }

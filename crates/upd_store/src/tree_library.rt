@@ -6,7 +6,7 @@ ghost use Rattle.sqlite_trees.specs.View.{IsClean, IsQuiet};
 ghost use Rattle.sqlite.specs.Steps.{IsFresh};
 ghost use Rattle.upd_sql.specs.Encoded.{version_row};
 ghost use Rattle.upd_sql.specs.Schema.{library_schema};
-ghost use Rattle.upd_store.specs.TreeReads.{IsAdopted};
+ghost use Rattle.upd_store.specs.TreeReads.{IsAdopted, IsLibrary};
 ghost use Rattle.sqlite_exec.specs.Calls.{OnlyReads};
 
 use crate::tree_store::TreeStore;
@@ -64,6 +64,21 @@ fn has_version<S: Store>(store: &mut S, alloc: Global) -> Result<bool, StoreErro
     let rows = check::all_rows(store, &mut work, 0)?;
     let found = is_third(alloc, rows.as_slice())?;
     Ok(found)
+}
+
+/// Whether the trees are a library's of version 3.
+pub(crate) fn is_third_library<S: Alter>(store: &mut S, alloc: Global) -> Result<bool, StoreError>
+    requires { IsClean (S.Store.view store.old) → (S.Store.view store.old).is_broken ≡ false }
+    ensures ours { IfOk result (λ found. IsClean (S.Store.view store.new) → IsTrue found
+        → IsLibrary (S.Store.view store.old).trees) }
+    ensures same { IsClean (S.Store.view store.new)
+        → OnOk result (OnlyReads (S.Store.view store.old) (S.Store.view store.new)) }
+    ensures quiet { IsQuiet S.Store.view S.Store.faults S.Store.recovers S.Store.is_shielded store.old store.new }
+{
+    if !lists_library(&*store, alloc)? {
+        return Ok(false);
+    }
+    has_version(store, alloc)
 }
 
 impl<S: Alter + Drop> TreeStore<S> {

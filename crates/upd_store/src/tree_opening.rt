@@ -13,7 +13,7 @@ ghost use Rattle.upd_store.specs.TreeReads.{IsLibrary};
 ghost use Rattle.upd_store.specs.TreeOpening.{FindsTrees, IsAttached};
 
 use crate::exposure::is_exposed;
-use crate::file::begins_as_database;
+use crate::file::{begins_as_database, is_no_path};
 use crate::tree_store::TreeStore;
 use sqlite::{FileFrom, FileStore, Files, Start};
 use sqlite_disk::Disk;
@@ -51,11 +51,6 @@ impl<St: Start> TreeStore<FileStore<FileFrom<St>>> {
     }
 }
 
-/// Whether SQLite reads a path as something else than a file's name.
-fn is_no_path(path: &str) -> bool {
-    path == ":memory:" || path.starts_with("file:")
-}
-
 /// Opens the library in two files that the caller has opened.
 pub(crate) fn open_files<D: Disk + Drop>(
     alloc: Global,
@@ -81,34 +76,37 @@ pub(crate) fn open_files<D: Disk + Drop>(
     let Ok(unopened) = Unopened::new(alloc, pager, &[]) else {
         return None;
     };
-    let Some(store) = attached(alloc, unopened) else {
+    let Ok(store) = attached(alloc, unopened) else {
         return None;
     };
     TreeStore::adopt(alloc, store)
 }
 
 /// Checks the files, under the schema that they list: each index in plain order, and all else a table. Whether that is
-/// their schema is seen in the store.
-fn attached<D: Disk + Drop>(alloc: Global, files: Unopened<D>) -> Option<FileStore<D>>
+/// their schema is seen in the store. Where that fails the files are given back.
+pub(crate) fn attached<D: Disk + Drop>(
+    alloc: Global,
+    files: Unopened<D>,
+) -> Result<FileStore<D>, Files<D>>
     requires { AreUsable files }
-    ensures { IfSome result (λ store. IsClean (view store) → IsAttached files store) }
+    ensures { IfOk result (λ store. IsClean (view store) → IsAttached files store) }
 {
     let mut files = files;
     let Ok(listed) = files.read_catalog() else {
-        return None;
+        return Err(files.close());
     };
     let Ok((rows, layouts)) = laid_out(alloc, &listed) else {
-        return None;
+        return Err(files.close());
     };
     let Ok(is_listed) = files.list_schema(&rows, &layouts) else {
-        return None;
+        return Err(files.close());
     };
     if !is_listed {
-        return None;
+        return Err(files.close());
     }
     match files.open_numbered() {
-        Ok(store) => Some(store),
-        Err(_) => None,
+        Ok(store) => Ok(store),
+        Err((_, left)) => Err(left.close()),
     }
 }
 

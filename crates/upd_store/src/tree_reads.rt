@@ -1,10 +1,11 @@
-//! The library's tables, each read by one walk over its tree, outside of a transaction.
+//! The library's tables, each read by one walk over its tree and one over its index, outside of a transaction.
 ghost use Rattle.std.specs.Prelude.{◌≡◌};
 ghost use Rattle.upd_row_store.specs.Tables.{AreByKey, AreRead};
 ghost use Rattle.upd_sql.specs.Part.{AreActiveRows};
 ghost use Rattle.upd_store.specs.TreeReads.{Answers, Finds, IsWhole, ListsLibrary, ListsRuns};
 
 use crate::tree_records::Record;
+use crate::tree_tallies::Tally;
 use sqlite_trees::error::StoreError;
 use sqlite_trees::store::{Direction, Store};
 use sqlite_value::row::Row;
@@ -22,7 +23,11 @@ pub struct StoredRuns {
 }
 
 /// The records of a table, in the order of their rowids. Beside them one row is in memory at a time.
-fn walk<S: Store, T: Record + Drop>(store: &mut S, alloc: Global) -> Result<Vec<T>, StoreError>
+fn walk<S: Store, T: Record + Drop>(
+    store: &mut S,
+    alloc: Global,
+    rows: &mut Tally,
+) -> Result<Vec<T>, StoreError>
     ensures { Finds S.Store store.old store.new (λ it found. found.items ≡ T.listed it) result }
 {
     let mut row = Row::new(alloc);
@@ -32,13 +37,75 @@ fn walk<S: Store, T: Record + Drop>(store: &mut S, alloc: Global) -> Result<Vec<
         if !store.next(0, &mut row)? {
             return Ok(found);
         }
+        rows.add_row(&row, T::KEYS);
         found.push(T::read(alloc, &row)?)?;
     }
     // No sound store has this many entries.
     Err(StoreError::OutOfMemory)
 }
 
-/// The same. A walk that fails is rolled back, so that the next one finds the trees whole.
+/// Compares the entries of an index with the rows of its table.
+fn walk_index<S: Store>(
+    store: &mut S,
+    alloc: Global,
+    tree: u32,
+    keys: usize,
+    rows: &Tally,
+) -> Result<(), StoreError>
+    ensures { Finds S.Store store.old store.new (λ it found. Unit {0}) result }
+{
+    let mut entry = Row::new(alloc);
+    store.seek(0, tree, &entry, Direction::Forward)?;
+    let mut entries = Tally::new();
+    'entries: for _ in 0..u64::MAX {
+        if !store.next(0, &mut entry)? {
+            return entries.compared(rows);
+        }
+        entries.add_entry(&entry, keys);
+    }
+    // No sound store has this many entries.
+    Err(StoreError::OutOfMemory)
+}
+
+// A walk that fails is rolled back, so that the next one finds the trees whole.
+
+fn table_records<S: Store, T: Record + Drop>(
+    store: &mut S,
+    alloc: Global,
+    rows: &mut Tally,
+) -> Result<Vec<T>, StoreError>
+    requires { IsWhole (S.Store.view store.old) }
+    ensures { Answers S.Store store.old store.new (λ it found. found.items ≡ T.listed it) result }
+{
+    match walk(store, alloc, rows) {
+        Ok(found) => Ok(found),
+        Err(error) => {
+            store.rollback();
+            Err(error)
+        }
+    }
+}
+
+fn compare_index<S: Store>(
+    store: &mut S,
+    alloc: Global,
+    tree: u32,
+    keys: usize,
+    rows: &Tally,
+) -> Result<(), StoreError>
+    requires { IsWhole (S.Store.view store.old) }
+    ensures { Answers S.Store store.old store.new (λ it found. Unit {0}) result }
+{
+    match walk_index(store, alloc, tree, keys, rows) {
+        Ok(()) => Ok(()),
+        Err(error) => {
+            store.rollback();
+            Err(error)
+        }
+    }
+}
+
+/// The records of a table, in the order of their rowids. Corrupt where its index has other entries.
 pub(crate) fn records<S: Store, T: Record + Drop>(
     store: &mut S,
     alloc: Global,
@@ -46,13 +113,10 @@ pub(crate) fn records<S: Store, T: Record + Drop>(
     requires { IsWhole (S.Store.view store.old) }
     ensures { Answers S.Store store.old store.new (λ it found. found.items ≡ T.listed it) result }
 {
-    match walk(store, alloc) {
-        Ok(found) => Ok(found),
-        Err(error) => {
-            store.rollback();
-            Err(error)
-        }
-    }
+    let mut rows = Tally::new();
+    let found = table_records(store, alloc, &mut rows)?;
+    compare_index(store, alloc, T::INDEX, T::KEYS, &rows)?;
+    Ok(found)
 }
 
 /// The rows of the four tables that a library is made of.

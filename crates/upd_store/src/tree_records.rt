@@ -21,6 +21,12 @@ pub(crate) trait Record: Sized {
     /// The table's tree.
     const TREE: u32;
 
+    /// The tree of the index of its key.
+    const INDEX: u32;
+
+    /// The number of columns of its key, which come first.
+    const KEYS: usize;
+
     ghost TREE: { ℕ };
 
     // The records of this kind.
@@ -151,6 +157,10 @@ impl Record for Ident {
 
     const TREE: u32 = 2;
 
+    const INDEX: u32 = 3;
+
+    const KEYS: usize = 1;
+
     ghost stored = { ident_row };
 
     ghost TREE = { 2 };
@@ -181,6 +191,10 @@ impl Record for CardRow {
 
     const TREE: u32 = 4;
 
+    const INDEX: u32 = 5;
+
+    const KEYS: usize = 2;
+
     ghost stored = { card_row };
 
     ghost TREE = { 4 };
@@ -208,6 +222,10 @@ impl Record for EntryRow {
 
     const TREE: u32 = 6;
 
+    const INDEX: u32 = 7;
+
+    const KEYS: usize = 3;
+
     ghost stored = { entry_row };
 
     ghost TREE = { 6 };
@@ -231,6 +249,10 @@ impl Record for TargetRow {
 
     const TREE: u32 = 8;
 
+    const INDEX: u32 = 9;
+
+    const KEYS: usize = 3;
+
     ghost stored = { target_row };
 
     ghost TREE = { 8 };
@@ -251,6 +273,10 @@ impl Record for RunRow {
     ghost use Rattle.upd_sql.specs.Encoded.{run_row};
 
     const TREE: u32 = 10;
+
+    const INDEX: u32 = 11;
+
+    const KEYS: usize = 2;
 
     ghost stored = { run_row };
 
@@ -283,6 +309,10 @@ impl Record for StateRow {
 
     const TREE: u32 = 12;
 
+    const INDEX: u32 = 13;
+
+    const KEYS: usize = 2;
+
     ghost stored = { state_row };
 
     ghost TREE = { 12 };
@@ -302,6 +332,10 @@ impl Record for MarkRow {
     ghost use Rattle.upd_sql.specs.Encoded.{mark_row};
 
     const TREE: u32 = 16;
+
+    const INDEX: u32 = 17;
+
+    const KEYS: usize = 1;
 
     ghost stored = { mark_row };
 
@@ -327,6 +361,10 @@ impl Record for (CardRef, bool) {
 
     const TREE: u32 = 12;
 
+    const INDEX: u32 = 13;
+
+    const KEYS: usize = 2;
+
     ghost stored = { kept_state };
 
     ghost TREE = { 12 };
@@ -350,6 +388,10 @@ impl Record for (Target, u32) {
     ghost use Rattle.upd_sql.specs.Encoded.{kept_count};
 
     const TREE: u32 = 14;
+
+    const INDEX: u32 = 15;
+
+    const KEYS: usize = 3;
 
     ghost stored = { kept_count };
 

@@ -12,8 +12,8 @@ use std::alloc::Global;
 use upd_core::{Actives, CardRef, Change, Library, Serial, States};
 use upd_records::{LibraryRows, MarkRow, RunRow};
 use upd_row_store::{
-    Meaning, RowStore, ages_of_decks, assembled, assembled_active, assembled_part, decks_by_age,
-    reads_with,
+    DeckOf, Meaning, RowStore, ages_of_decks, assembled, assembled_active, assembled_deck,
+    assembled_part, decks_by_age, reads_with,
 };
 use upd_text::Fault;
 
@@ -112,6 +112,19 @@ impl<S: Store> RowStore for TreeStore<S> {
     fn load_decks(&mut self, alloc: Global, decks: &[Serial]) -> Result<Library, Fault> {
         match library_rows(&mut self.store, alloc) {
             Ok(rows) => match assembled_part(alloc, rows, decks) {
+                Ok(library) => {
+                    self.decks_read = reads_with(self.decks_read, &library);
+                    Ok(library)
+                }
+                Err(_) => Err(no_memory()),
+            },
+            Err(error) => Err(failed_read(error, &mut self.failures)),
+        }
+    }
+
+    fn load_deck_of(&mut self, alloc: Global, asked: &DeckOf) -> Result<Library, Fault> {
+        match library_rows(&mut self.store, alloc) {
+            Ok(rows) => match assembled_deck(alloc, rows, asked) {
                 Ok(library) => {
                     self.decks_read = reads_with(self.decks_read, &library);
                     Ok(library)

@@ -1,0 +1,228 @@
+//! One open of a library's file for both stores.
+ghost use Rattle.std.specs.Prelude.{◌≡◌, IfErr, IfOk, IsTrue};
+ghost use Rattle.sqlite.specs.Files.{image_of, file_state};
+ghost use Rattle.sqlite.specs.Start.{FindsIn};
+ghost use Rattle.sqlite.specs.State.{HasCleanDisk};
+ghost use Rattle.sqlite.specs.Steps.{IsFresh};
+ghost use Rattle.sqlite_store.specs.FileStore.{view};
+ghost use Rattle.sqlite_trees.specs.View.{IsClean};
+ghost use Rattle.upd_sql.specs.Schema.{library_schema};
+ghost use Rattle.sqlite_wal.specs.Files.{image_at};
+ghost use Rattle.sqlite_wal.specs.Reads.{OnlyReads};
+ghost use Rattle.upd_store.specs.Faults.{IsUnopened};
+ghost use Rattle.upd_store.specs.TreeReads.{IsLibrary};
+ghost use Rattle.upd_store.specs.OneOpen.{IsKept, IsTaken, MayFind};
+ghost use Rattle.upd_store.specs.TreeOpening.{FindsTrees};
+
+use crate::file::{adopted, begins_as_database, refuse_exposed};
+use crate::sql_store::SqlStore;
+use crate::store_faults::{fault_of, no_memory, store_at};
+use crate::tree_library::is_third_library;
+use crate::tree_opening::attached;
+use crate::tree_store::TreeStore;
+use sqlite::{Connection, FileFrom, FileStore, Files, Start};
+use sqlite_disk::Disk;
+use sqlite_pager::{Options, Pager};
+use sqlite_std_file::OpenError;
+use sqlite_store::Unopened;
+use sqlite_trees::error::StoreError;
+use sqlite_wal::probe_page_size;
+use std::alloc::{AllocFailed, Global};
+use std::hash::{BuildHasher, RandomState};
+use std::io;
+use upd_sqlite::Rising;
+use upd_text::Fault;
+
+/// The store over two files, under the schema that they list. Where they aren't opened so they are given back.
+fn stored<D: Disk + Drop>(
+    alloc: Global,
+    files: Files<D>,
+    options: Options,
+) -> Result<FileStore<D>, Files<D>>
+    requires log { IsTrue (D.Disk.is_usable files.log) }
+    requires db { IsTrue (D.Disk.is_usable files.db) }
+    ensures { IfOk result (λ store. IsClean (view store) → MayFind (image_of D.Disk files) (view store)) }
+{
+    let mut files = files;
+    let Ok(found) = probe_page_size(&mut files) else {
+        return Err(files);
+    };
+    let Some(size) = found else {
+        return Err(files);
+    };
+    let pager = match Pager::new(alloc, files, size, options) {
+        Ok(pager) => pager,
+        Err(AllocFailed { value }) => return Err(value),
+    };
+    let unopened = match Unopened::new(alloc, pager, &[]) {
+        Ok(unopened) => unopened,
+        Err(AllocFailed { value }) => return Err(value.close()),
+    };
+    attached(alloc, unopened)
+}
+
+/// The library through SQL, over a store that was just opened.
+fn over_store<S: Rising + Drop>(alloc: Global, store: S) -> Result<SqlStore<S>, Fault>
+    requires { IsClean (S.Store.view store) → IsFresh (S.Store.view store) }
+    ensures taken { IfOk result (λ s. IsTaken S.Store store s.conn) }
+    ensures unopened { IfErr result IsUnopened }
+{
+    let conn = match Connection::over(alloc, store) {
+        Ok(conn) => conn,
+        Err((error, _)) => return Err(fault_of(error)),
+    };
+    match SqlStore::adopt(conn) {
+        Ok(library) => Ok(library),
+        Err((fault, _)) => Err(fault),
+    }
+}
+
+/// The library over a store that was just opened: over its trees, or through SQL where they aren't a library's of version 3.
+fn over_either<S: Rising + Drop>(
+    alloc: Global,
+    store: S,
+) -> Result<Result<TreeStore<S>, SqlStore<S>>, Fault>
+    requires { IsClean (S.Store.view store) → IsFresh (S.Store.view store) }
+    ensures below { IfOk result (λ l. IfOk l (λ s. IsKept S.Store store s.store)) }
+    ensures above { IfOk result (λ l. IfErr l (λ s. IsTaken S.Store store s.conn)) }
+    ensures unopened { IfErr result IsUnopened }
+{
+    let mut store = store;
+    let is_ours = match is_third_library(&mut store, alloc) {
+        Ok(is_ours) => is_ours,
+        Err(StoreError::OutOfMemory) => return Err(no_memory()),
+        Err(_) => return Err(store_at(0)),
+    };
+    if is_ours {
+        return Ok(Ok(TreeStore {
+            store,
+            failures: 0,
+            decks_read: 0,
+        }));
+    }
+    match over_store(alloc, store) {
+        Ok(library) => Ok(Err(library)),
+        Err(fault) => Err(fault),
+    }
+}
+
+/// The library in two files, through SQL.
+fn through_sql<D: Disk + Drop>(
+    alloc: Global,
+    files: Files<D>,
+    options: Options,
+) -> Result<SqlStore<FileStore<D>>, Fault>
+    requires log { IsTrue (D.Disk.is_usable files.log) }
+    requires db { IsTrue (D.Disk.is_usable files.db) }
+    ensures found { IfOk result (λ s. HasCleanDisk (file_state s.conn) → IsTrue (file_state s.conn).is_open
+        → FindsIn (image_of D.Disk files) (file_state s.conn)) }
+    ensures ours { IfOk result (λ s. HasCleanDisk (file_state s.conn) → IsTrue (file_state s.conn).is_open
+        → (file_state s.conn).committed.schema ≡ library_schema) }
+    ensures unopened { IfErr result IsUnopened }
+{
+    match Connection::open_files_with(alloc, files, options, false) {
+        Ok(conn) => match adopted(conn) {
+            Ok(library) => Ok(library),
+            Err(fault) => Err(fault),
+        },
+        Err((error, _)) => Err(fault_of(error)),
+    }
+}
+
+/// Why files aren't opened, as SQL's open says it.
+fn why_not<D: Disk + Drop>(alloc: Global, files: Files<D>, options: Options) -> Fault
+    ensures { IsUnopened result }
+{
+    if !files.log.may_be_used() || !files.db.may_be_used() {
+        return store_at(0);
+    }
+    match through_sql(alloc, files, options) {
+        Ok(_) => store_at(0),
+        Err(fault) => fault,
+    }
+}
+
+/// Whether the file's header reserves eight bytes of each page, as one with sums does.
+fn has_sums<D: Disk>(db: &mut D) -> bool
+    requires { IsTrue (D.Disk.is_usable db.old) }
+    ensures { OnlyReads D.Disk db.old db.new }
+{
+    let mut head = [0u8; 24];
+    match db.read_at(0, &mut head) {
+        Ok(()) => head[20] == 8,
+        Err(_) => false,
+    }
+}
+
+/// Opens the library in two files that the caller has opened, once: below SQL for a question, through SQL for a run, and for
+/// a file whose pages have sums.
+pub fn opened<D: Disk + Drop>(
+    alloc: Global,
+    files: Files<D>,
+    seed: u64,
+    only_reads: bool,
+) -> Result<Result<TreeStore<FileStore<D>>, SqlStore<FileStore<D>>>, Fault>
+    requires log { IsTrue (D.Disk.is_usable files.log) }
+    requires db { IsTrue (D.Disk.is_usable files.db) }
+    ensures below { IfOk result (λ l. IfOk l (λ s. IsClean (view s.store)
+        → FindsTrees (image_of D.Disk files) (view s.store).committed × IsLibrary (view s.store).committed)) }
+    ensures found { IfOk result (λ l. IfErr l (λ s. HasCleanDisk (file_state s.conn) → IsTrue (file_state s.conn).is_open
+        → FindsIn (image_of D.Disk files) (file_state s.conn))) }
+    ensures ours { IfOk result (λ l. IfErr l (λ s. HasCleanDisk (file_state s.conn) → IsTrue (file_state s.conn).is_open
+        → (file_state s.conn).committed.schema ≡ library_schema)) }
+    ensures only { IfOk result (λ l. IfOk l (λ _. IsTrue only_reads)) }
+    ensures unopened { IfErr result IsUnopened }
+{
+    let mut files = files;
+    if has_sums(&mut files.db) || !only_reads {
+        return match through_sql(alloc, files, Options::new(seed)) {
+            Ok(library) => Ok(Err(library)),
+            Err(fault) => Err(fault),
+        };
+    }
+    match stored(alloc, files, Options::new(seed)) {
+        Ok(store) => over_either(alloc, store),
+        Err(left) => Err(why_not(alloc, left, Options::new(seed))),
+    }
+}
+
+/// The fault of files that can't be opened.
+fn files_fault(error: OpenError) -> Fault
+    ensures { IsUnopened result }
+{
+    match error {
+        OpenError::OutOfMemory => no_memory(),
+        OpenError::Io(error) if error.kind() == io::ErrorKind::OutOfMemory => no_memory(),
+        _ => store_at(0),
+    }
+}
+
+/// Opens the library in a file, once: below SQL for a question, through SQL for a run, and for a file whose pages have sums.
+pub fn open_once<St: Start>(
+    rt: &HostRuntime,
+    path: &str,
+    start: St,
+    only_reads: bool,
+) -> Result<Result<TreeStore<FileStore<FileFrom<St>>>, SqlStore<FileStore<FileFrom<St>>>>, Fault>
+    ensures below { IfOk result (λ l. IfOk l (λ s. IsClean (view s.store)
+        → FindsTrees (image_at St.Start) (view s.store).committed × IsLibrary (view s.store).committed)) }
+    ensures found { IfOk result (λ l. IfErr l (λ s. HasCleanDisk (file_state s.conn) → IsTrue (file_state s.conn).is_open
+        → FindsIn (image_at St.Start) (file_state s.conn))) }
+    ensures ours { IfOk result (λ l. IfErr l (λ s. HasCleanDisk (file_state s.conn) → IsTrue (file_state s.conn).is_open
+        → (file_state s.conn).committed.schema ≡ library_schema)) }
+    ensures only { IfOk result (λ l. IfOk l (λ _. IsTrue only_reads)) }
+    ensures unopened { IfErr result IsUnopened }
+{
+    if !begins_as_database(rt, path).unwrap_or(false) {
+        return Err(store_at(0));
+    }
+    refuse_exposed(rt, path)?;
+    let files = match sqlite_std_file::open(rt, path, start) {
+        Ok(files) => files,
+        Err(error) => return Err(files_fault(error)),
+    };
+    let Ok(state) = RandomState::new(rt) else {
+        return Err(store_at(0));
+    };
+    opened(rt.alloc(), files, state.hash_one(&0u8), only_reads)
+}
