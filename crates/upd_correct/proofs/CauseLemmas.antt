@@ -1,9 +1,10 @@
 -- Why there is no run.
 use Rattle.upd_correct.proofs.Common.{◌≡◌, ℕ, List, [], ◌++◌, sym, ap, ◌∙◌, subst, Result, Ok, Err, LibraryView, NewDeck, CorrectError, Refusal, lines_in}
-use Rattle.upd_correct.proofs.Common.{part_name, AreReadFrom, lines_refusals, refusals_at, refusals_of}
+use Rattle.upd_correct.proofs.Common.{◌+◌, length, map, part_name, Follows, AreReadFrom, lines_refusals, refusals_at, refusals_of}
 use Rattle.std.specs.Prelude.{IfErr, OnOk}
 use Rattle.upd_correct.specs.declared.refusal.CorrectError.TheVariants.{NoMemory, Refused}
-use Rattle.upd_correct.specs.Parts.{IsPartsCause}
+use Rattle.upd_correct.specs.Parts.{ArePartRefusals, IsPartCause, IsPartsCause, OfPart, OfParts, in_part}
+use Rattle.upd_correct.specs.Causes.{AreRefusals}
 use Rattle.upd_correct.specs.Problems.{set_problem}
 
 pub on_ok : {A E P : Type 0} (result : Result A E) → P → OnOk result P
@@ -16,12 +17,20 @@ pub all_refused : (l : LibraryView) (set text : List ℕ) (first refusals : List
 all_refused l set text first refusals decks of_set read =
     read.refused ∙ ap (λ first. first ++ lines_refusals l set [] (lines_in text)) of_set
 
--- a text without problems can be refused for whatever its parts meet
-pub clean_cause : {A : Type 0} (l : LibraryView) (set text : List ℕ) (result : Result A CorrectError) → refusals_of l (part_name set 1) text ≡ []
-    → IfErr result (IsPartsCause l set text)
-clean_cause l set text (Ok x) clean = tt
-clean_cause l set text (Err NoMemory) clean = tt
-clean_cause l set text (Err (Refused refusals)) clean = λ wrong. absurd (wrong clean)
+-- a text without problems is refused for what its parts meet
+pub parts_cause : {A : Type 0} (l : LibraryView) (set text : List ℕ) (result : Result A CorrectError) → refusals_of l (part_name set 1) text ≡ []
+    → IfErr result (IsPartCause l set) → IfErr result (IsPartsCause l set text)
+parts_cause l set text (Ok x) clean is = tt
+parts_cause l set text (Err NoMemory) clean is = tt
+parts_cause l set text (Err (Refused refusals)) clean is = OfParts clean is
+
+-- a part is refused for its text or its run
+pub part_refused : (l before : LibraryView) (set text : List ℕ) (runs : List (List ℕ)) (number : ℕ) (found refusals : List Refusal)
+    → Follows l set runs before → number ≡ length runs + 1 → AreRefusals before before (part_name set number) text found
+    → refusals ≡ map (in_part number) found → ArePartRefusals l set refusals
+part_refused l before set text runs number found refusals was at are is =
+    OfPart before runs text found was (subst (λ (n : ℕ). AreRefusals before before (part_name set n) text found) at are)
+    (is ∙ ap (λ (n : ℕ). map (in_part n) found) at)
 
 -- the text has no problems for the set of the first part, by whatever names that is called
 pub clean_text : (l : LibraryView) (set checked_set read_set text : List ℕ) (first refusals : List Refusal) (decks : List NewDeck) → checked_set ≡ set

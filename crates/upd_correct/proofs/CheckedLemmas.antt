@@ -1,7 +1,7 @@
 -- What a check shows of a run.
 use Rattle.upd_correct.proofs.Common.{◌≡◌, ℕ, ◌+◌, ◌<◌, Bool, true, false, not, List, [], ◌∷◌, ◌++◌, length, take, drop, Option, Some, None, refl, sym, ap}
 use Rattle.upd_correct.proofs.Common.{◌∙◌, subst, arith, ◌==◌, filter, AllByRecursion, AllZip, option_map_or, Target, next_age, CardView, DeckView}
-use Rattle.upd_correct.proofs.Common.{LibraryView, cards_of, deck_of, is_deck, is_active, live_targets, all_weaker, is_same_number, NewDeck, CorrectsTo}
+use Rattle.upd_correct.proofs.Common.{LibraryView, cards_of, deck_of, is_deck, is_active, live_targets, all_weaker, is_same_number, NewDeck, CorrectsSince}
 use Rattle.upd_correct.proofs.Common.{HasDecks, HasTexts, AreDecksFrom, AreLeft, Corrects, Empty, IsChecked, IsDeckLeft, LeadsCards, New, Old, held_serials}
 use Rattle.std.proofs.Common.{find, if◌then◌else◌, take-append-drop}
 use Rattle.upd_core.specs.Edits.{is_among}
@@ -50,19 +50,26 @@ after_off : (live : List Target) (d z : ℕ) (c : CardView) (news : List CardVie
     → old_after live d z (c ∷ news) ≡ old_after live d z news
 after_off live d z c news off = ap (filter (is_old z)) (filter_out (is_active live d) c news off)
 
-pub left_kept : (live : List Target) (d z : ℕ) (olds news : List CardView) → AreLeft live d z olds news
+pub left_kept : (taken live : List Target) (d z last : ℕ) (olds news : List CardView) → AreLeft taken live d z last olds news
     → IsSublist (old_after live d z news) (filter (is_active live d) olds)
-left_kept live d z _ _ Empty = Nothing
-left_kept live d z _ _ (New c olds news own on left) =
+left_kept taken live d z last _ _ Empty = Nothing
+left_kept taken live d z last _ _ (New c olds news own on left) =
     subst (λ (cards : List CardView). IsSublist cards (filter (is_active live d) olds)) (sym (after_new live d z c news on (new_fails z c own)))
-    (left_kept live d z olds news left)
-left_kept live d z _ _ (Old o c olds news other (Goes on e off) left) =
+    (left_kept taken live d z last olds news left)
+left_kept taken live d z last _ _ (Old o c olds news other (Goes young seen e off) left) =
     subst (λ (cards : List CardView). IsSublist cards (filter (is_active live d) (o ∷ olds))) (sym (after_off live d z c news off))
-    (subst (IsSublist (old_after live d z news)) (sym (filter_in (is_active live d) o olds on))
-    (Left o (old_after live d z news) (filter (is_active live d) olds) (left_kept live d z olds news left)))
-left_kept live d z _ _ (Old o c olds news other (Stays e) left) =
+    (go (is_active live d o) refl (left_kept taken live d z last olds news left))
+  where
+    go : (b : Bool) → is_active live d o ≡ b → IsSublist (old_after live d z news) (filter (is_active live d) olds)
+        → IsSublist (old_after live d z news) (filter (is_active live d) (o ∷ olds))
+    go true on rest =
+        subst (IsSublist (old_after live d z news)) (sym (filter_in (is_active live d) o olds on))
+        (Left o (old_after live d z news) (filter (is_active live d) olds) rest)
+    go false was_off rest =
+        subst (IsSublist (old_after live d z news)) (sym (filter_out (is_active live d) o olds was_off)) rest
+left_kept taken live d z last _ _ (Old o c olds news other (Stays e) left) =
     subst (λ (x : CardView). IsSublist (old_after live d z (c ∷ news)) (filter (is_active live d) (x ∷ olds))) (sym e)
-    (go (is_active live d c) refl (left_kept live d z olds news left))
+    (go (is_active live d c) refl (left_kept taken live d z last olds news left))
   where
     go : (b : Bool) → is_active live d c ≡ b → IsSublist (old_after live d z news) (filter (is_active live d) olds)
         → IsSublist (old_after live d z (c ∷ news)) (filter (is_active live d) (c ∷ olds))
@@ -128,9 +135,10 @@ not_held l d (t ∷ decks) none = go (deck_of t.name l) refl (not_held l d decks
 pub live_same : (l m : LibraryView) → l.yanks ≡ m.yanks → live_targets l ≡ live_targets m
 live_same l m e = ap (λ (yanks : List CardView). targets_of (live_cards yanks)) e
 
-deck_same : (l m : LibraryView) (set run : List ℕ) (decks : List NewDeck) (d : ℕ) → Corrects l set run decks m → d < next_age l
+deck_same : (live : List Target) (last : ℕ) (l m : LibraryView) (set run : List ℕ) (decks : List NewDeck) (d : ℕ)
+    → Corrects live last l set run decks m → d < next_age l
     → AllByRecursion (λ (t : NewDeck). deck_of t.name l ≡ Some d → ⊥) decks → active_cards d m ≡ active_cards d l
-deck_same l m set run decks d is less none =
+deck_same live last l m set run decks d is less none =
     let halves : m.decks ≡ take (length l.decks) m.decks ++ drop (length l.decks) m.decks = sym (take-append-drop (length l.decks) m.decks) in
     let found : find (is_deck d) m.decks ≡ find (is_deck d) l.decks =
     ap (find (is_deck d)) halves
@@ -140,15 +148,16 @@ deck_same l m set run decks d is less none =
     λ i. option_map_or (λ (x : DeckView). x.cards) (if 0 == d then Some (record { ident = 0; cards = sym is.yanks i }) else found i) [] in
     λ i. filter (is_active (sym (live_same l m is.yanks) i) d) (cards i)
 
-cards_kept : (l m : LibraryView) → l.yanks ≡ m.yanks → (t : NewDeck) → LeavesCards l m t → KeepsCards l m t
-cards_kept l m yanks t leaves d held =
+cards_kept : (taken : List Target) (last : ℕ) (l m : LibraryView) → l.yanks ≡ m.yanks → (t : NewDeck) → LeavesCards taken last l m t → KeepsCards l m t
+cards_kept taken last l m yanks t leaves d held =
     subst (λ (live : List Target). IsSublist (filter (λ (card : CardView). not (card.ident == next_age l)) (filter (is_active live d) (cards_of d m)))
     (active_cards d l))
-    (live_same l m yanks) (left_kept (live_targets l) d (next_age l) (cards_of d l) (cards_of d m) (leaves d held))
+    (live_same l m yanks) (left_kept taken (live_targets l) d (next_age l) last (cards_of d l) (cards_of d m) (leaves d held))
 
-pub checked_corrects : (l : LibraryView) (set text run : List ℕ) (decks : List NewDeck) → HasDecks text decks → BeginsWithSet set run
-    → (AllByRecursion (HasTexts l) decks → run ≡ []) → IsChecked l set run decks → CorrectsTo l set text run
-checked_corrects l set text run decks given named needed is = record {
+pub checked_corrects : (last : ℕ) (taken l : LibraryView) (set text run : List ℕ) (decks : List NewDeck) → HasDecks text decks → BeginsWithSet set run
+    → (AllByRecursion (HasTexts (live_targets taken) taken) decks → run ≡ []) → IsChecked (live_targets taken) last l set run decks
+    → CorrectsSince last taken l set text run
+checked_corrects last taken l set text run decks given named needed is = record {
   decks = decks;
   given = given;
   named = named;
@@ -159,8 +168,7 @@ checked_corrects l set text run decks given named needed is = record {
   accepted = is.accepted;
   compile = is.compile;
   whole = is.corrects;
-  texts = is.corrects.texts;
-  others = λ d less none. deck_same l is.after.library set run decks d is.corrects less none;
-  kept = all_weaker (LeadsCards l is.after.library) (KeepsCards l is.after.library) decks
-      (λ t leads. cards_kept l is.after.library is.corrects.yanks t leads.0) is.corrects.cards;
+  others = λ d less none. deck_same (live_targets taken) last l is.after.library set run decks d is.corrects less none;
+  kept = all_weaker (LeadsCards (live_targets taken) last l is.after.library) (KeepsCards l is.after.library) decks
+      (λ t leads. cards_kept (live_targets taken) last l is.after.library is.corrects.yanks t leads.0) is.corrects.cards;
 }

@@ -15,21 +15,15 @@ pub use Rattle.upd_core.specs.Library.{deck_of}
 pub use Rattle.upd_core.specs.Status.{LiveView}
 pub use Rattle.upd_core.specs.declared.ident.Ident.{Ident}
 pub use Rattle.upd_core.specs.declared.target.Target.{Target}
-pub use Rattle.upd_correct.specs.Checked.{AreDecksFrom, AreLeft, Corrects, Empty, HasTexts, IsChecked, IsDeckLeft, LeadsCards, New, Old, held_serials}
-pub use Rattle.upd_correct.specs.Correcting.{CorrectsTo}
-pub use Rattle.upd_correct.specs.Corrections.{Correction, IsCardItem, IsCardLine, NewDeck, Segment, edit_lines, first_line, new_deck_lines}
-pub use Rattle.upd_correct.specs.EditedText.{HasDecks, IsReadAs, card_line, lines_in, texts_of}
+pub use Rattle.upd_correct.specs.Checked.{AreDecksFrom, AreLeft, Corrects, Empty, HasTexts, IsChecked, IsDeckLeft, LeadsCards, New, Old, held_serials, new_decks}
+pub use Rattle.upd_correct.specs.Correcting.{CorrectsSince, CorrectsTo}
+pub use Rattle.upd_correct.specs.EditedText.{HasDecks, IsReadAs, NewDeck, RunLine, card_line, first_line, lines_in, new_deck_lines, texts_of}
 pub use Rattle.upd_correct.specs.LineReads.{HasReading}
 pub use Rattle.upd_correct.specs.ListedDeck.{ListedView, is_other, listed_card, listed_name}
 pub use Rattle.upd_correct.specs.Parts.{Follows, part_name}
-pub use Rattle.upd_correct.specs.Plans.{AreCorrectionsFor, IsEditedDeck, new_decks}
-pub use Rattle.upd_correct.specs.Problems.{HasNoProblem, deck_problem, line_problem}
+pub use Rattle.upd_correct.specs.Problems.{deck_problem, line_problem}
 pub use Rattle.upd_correct.specs.ReadDecks.{AreReadFrom}
 pub use Rattle.upd_correct.specs.Refusals.{head_read, lines_refusals, refusals_at, refusals_of}
-pub use Rattle.upd_correct.specs.RunLines.{IsSpelled, RunLine, insert_line, run_of}
-pub use Rattle.upd_correct.specs.Runs.{is_unchanged}
-pub use Rattle.upd_correct.specs.Scripts.{IsScriptOf, text_given}
-pub use Rattle.upd_correct.specs.Writing.{Writes}
 pub use Rattle.upd_correct.specs.declared.refusal.CorrectError.{CorrectError}
 pub use Rattle.upd_correct.specs.declared.refusal.Refusal.{Refusal}
 pub use Rattle.upd_deck.proofs.Common.{AllZip, LineView, bytes_eq, bytes_eq-Decides, is_allowed, is_feed, is_name, list_all, reading, take_all, take_more}

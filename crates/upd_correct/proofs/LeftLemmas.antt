@@ -5,9 +5,10 @@ use Rattle.std.proofs.lemmas.List.{drop_all}
 use Rattle.upd_correct.proofs.ListLemmas.{rest_of}
 
 -- at the end of both lists
-pub none_left : (live : List Target) (d z : ℕ) (rest news : List CardView) (i : ℕ) → length rest ≡ 0 → length news ≤ i → AreLeft live d z rest (drop i news)
-none_left live d z [] news i none end = subst (AreLeft live d z []) (sym (drop_all i news end)) Empty
-none_left live d z (c ∷ rest) news i none end = absurd (omega (arith, none))
+pub none_left : (taken live : List Target) (d z last : ℕ) (rest news : List CardView) (i : ℕ) → length rest ≡ 0 → length news ≤ i
+    → AreLeft taken live d z last rest (drop i news)
+none_left taken live d z last [] news i none end = subst (AreLeft taken live d z last []) (sym (drop_all i news end)) Empty
+none_left taken live d z last (c ∷ rest) news i none end = absurd (omega (arith, none))
 
 -- a list of a first element and the rest
 pub first_and_more : {A : Type 0} (xs : List A) (d : A) → 0 < length xs → xs ≡ get_or xs 0 d ∷ take (length xs - 1) (drop 1 xs)

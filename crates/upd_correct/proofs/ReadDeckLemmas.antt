@@ -1,15 +1,14 @@
 -- One more line of an edited text: the decks and the refusals that it gives.
-use Rattle.upd_correct.proofs.Common.{◌≡◌, ℕ, ◌+◌, false, List, [], ◌∷◌, ◌++◌, map, length, refl, sym, ap, ◌∙◌, subst, append_assoc, append-nil, map-append}
-use Rattle.upd_correct.proofs.Common.{flat_map-append, option_map_or, AllByRecursion, LibraryView, reading, all_append, IsCardLine, NewDeck, first_line}
-use Rattle.upd_correct.proofs.Common.{Refusal, IsReadAs, card_line, HasReading, IsEditedDeck, HasNoProblem, deck_problem, line_problem, AreReadFrom}
+use Rattle.upd_correct.proofs.Common.{◌≡◌, ℕ, ◌+◌, List, [], ◌∷◌, ◌++◌, map, length, refl, sym, ap, ◌∙◌, append_assoc, append-nil, map-append}
+use Rattle.upd_correct.proofs.Common.{flat_map-append, option_map_or, LibraryView, reading, NewDeck, first_line}
+use Rattle.upd_correct.proofs.Common.{Refusal, IsReadAs, card_line, HasReading, deck_problem, line_problem, AreReadFrom}
 use Rattle.upd_correct.proofs.Common.{head_read, lines_refusals, refusals_at}
 use Rattle.std.specs.Prelude.{Option, Some, None}
 use Rattle.upd_correct.specs.declared.refusal.Problem.{Problem}
 use Rattle.upd_correct.specs.declared.refusal.Problem.TheVariants.{NoDeck}
 use Rattle.upd_correct.specs.Problems.{problem_column}
 use Rattle.upd_correct.specs.Refusals.{line_refusals, name_begun, names_begun, place_problem}
-use Rattle.upd_correct.proofs.PlanLemmas.{no_problem_grown, no_problem_more}
-use Rattle.upd_correct.proofs.TextLineLemmas.{deck_grown, deck_read, line_read}
+use Rattle.upd_correct.proofs.TextLineLemmas.{deck_read, line_read}
 
 -- ---- refusals of one more line
 
@@ -58,10 +57,6 @@ none_before : {A : Type 0} (old new more : List A) → new ≡ old ++ more → n
 none_before [] new more now none = (refl, sym now ∙ none)
 none_before (x ∷ old) new more now none = let bad : x ∷ (old ++ more) ≡ [] = sym now ∙ none in absurd (cc)
 
-no_refusal : (line column : ℕ) (o : Option Problem) → refusals_at line column o ≡ [] → o ≡ None
-no_refusal line column None e = refl
-no_refusal line column (Some problem) e = absurd (cc)
-
 -- ---- lines with a refusal
 
 -- a line has a problem of its own
@@ -77,9 +72,7 @@ wrong_taken l set earlier lines line decks new_decks old new number column probl
       refused = grown l set earlier lines line old new _ are.refused now
           (own_refusal l set lines line problem is.0.0 ∙ ap (λ n. refusals_at n (problem_column line problem) (Some problem)) (sym at)
           ∙ ap (λ c. refusals_at number c (Some problem)) (sym is.1));
-      each = subst (AllByRecursion IsEditedDeck) (sym same) are.each;
       given = λ none. absurd (some none);
-      none = λ none. absurd (some none);
     }
 
 no_names : (names : List (List ℕ)) (decks : List NewDeck) → map (λ d. d.name) decks ≡ names → decks ≡ [] → names ≡ []
@@ -97,16 +90,14 @@ lost_taken l set earlier lines line text decks new_decks old new number at is em
       refused = grown l set earlier lines line old new _ are.refused now
           (place_refusal l set lines line None is.0 ∙ ap (λ n. refusals_at n 1 (place_problem l set (names_begun lines) None)) (sym at)
           ∙ ap (λ names. refusals_at number 1 (place_problem l set names None)) (no_names (names_begun lines) decks are.names empty));
-      each = subst (AllByRecursion IsEditedDeck) (sym same) are.each;
       given = λ none. absurd (some none);
-      none = λ none. absurd (some none);
     }
 
 -- ---- the first line of a deck
 
 pub head_taken : (l : LibraryView) (set : List ℕ) (earlier : List Refusal) (lines : List (List ℕ)) (line : List ℕ) (decks new_decks : List NewDeck)
     (old new : List Refusal) (number : ℕ) (d : NewDeck) → number ≡ length lines + 1
-    → HasReading line None (Some d) × (d.lines ≡ []) × (d.common ≡ false → d.noprop ≡ false) × IsReadAs line (first_line d)
+    → HasReading line None (Some d) × (d.lines ≡ []) × IsReadAs line (first_line d)
     → new_decks ≡ decks ++ d ∷ [] → new ≡ old ++ refusals_at number 1 (deck_problem l set (map (λ d. d.name) decks) d)
     → AreReadFrom l set earlier lines decks old → AreReadFrom l set earlier (lines ++ line ∷ []) new_decks new
 head_taken l set earlier lines line decks new_decks old new number d at is more now are =
@@ -117,11 +108,7 @@ head_taken l set earlier lines line decks new_decks old new number d at is more 
       refused = grown l set earlier lines line old new _ are.refused now
           (place_refusal l set lines line (Some d) is.0 ∙ ap (λ n. refusals_at n 1 (deck_problem l set (names_begun lines) d)) (sym at)
           ∙ ap (λ names. refusals_at number 1 (deck_problem l set names d)) (sym are.names));
-      each = subst (AllByRecursion IsEditedDeck) (sym more)
-          (all_append IsEditedDeck decks (d ∷ []) are.each (record { plain = is.2; lines = subst (AllByRecursion IsCardLine) (sym is.1) tt }, tt));
-      given = λ none. deck_read lines line decks new_decks d more is.1 is.3 (are.given (split none).0);
-      none = λ none. subst (HasNoProblem l set []) (sym more)
-          (no_problem_more l set [] decks d (are.none (split none).0) (no_refusal number 1 _ (split none).1));
+      given = λ none. deck_read lines line decks new_decks d more is.1 is.2 (are.given (split none).0);
     }
 
 -- ---- a further line of a deck
@@ -145,8 +132,5 @@ card_taken l set earlier lines line text front decks new_decks old new d e is wa
           (place_refusal l set lines line None is.0
           ∙ ap (λ names. refusals_at (length lines + 1) 1 (place_problem l set names None)) (sym are.names ∙ ap (map (λ (d : NewDeck). d.name)) was)
           ∙ ap (refusals_at (length lines + 1) 1) (placed_after l set front d));
-      each = deck_grown front decks new_decks d e text was now more are.each;
       given = λ none. line_read lines line text front decks new_decks d e was now more is.1 (are.given (sym same ∙ none));
-      none = λ none. subst (HasNoProblem l set []) (sym larger_now)
-          (no_problem_grown l set [] front d larger.lines (subst (HasNoProblem l set []) was (are.none (sym same ∙ none))));
     }

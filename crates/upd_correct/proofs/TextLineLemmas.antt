@@ -1,15 +1,14 @@
 -- The lines of an edited text, and how they are read.
-use Rattle.upd_correct.proofs.Common.{◌≡◌, ℕ, zero, suc, ◌+◌, ◌<◌, Bool, true, false, List, [], ◌∷◌, ◌++◌, map, length, take, drop, get_or, refl, sym, ap}
+use Rattle.upd_correct.proofs.Common.{◌≡◌, ℕ, zero, suc, ◌+◌, ◌<◌, Bool, true, false, List, [], ◌∷◌, ◌++◌, length, take, drop, get_or, refl, sym, ap}
 use Rattle.upd_correct.proofs.Common.{◌∙◌, subst, arith, append-nil, append_assoc, take_more, flat_map-append, Ok, flat_map, AllByRecursion, AllZip, LineView}
-use Rattle.upd_correct.proofs.Common.{is_feed, reading, all_back, all_front, all_append, IsCardItem, IsCardLine, NewDeck, first_line, new_deck_lines}
-use Rattle.upd_correct.proofs.Common.{IsSpelled, RunLine, IsReadAs, card_line, lines_in, HasReading, IsEditedDeck, line_problem, head_read}
+use Rattle.upd_correct.proofs.Common.{is_feed, reading, all_append, NewDeck, first_line, new_deck_lines}
+use Rattle.upd_correct.proofs.Common.{IsReadAs, card_line, lines_in, HasReading, line_problem, head_read}
 use Rattle.std.specs.Prelude.{None}
 use Rattle.upd_text.specs.Lines.{called, is_call}
 use Rattle.upd_deck.specs.Items.{ItemView, Text, Call}
-use Rattle.upd_deck.specs.Grammar.{AreLines, IsLine, IsTextOf, Trimmed, Comment, Line, NoMore, LastLine, NextLine, Says}
+use Rattle.upd_deck.specs.Grammar.{AreLines, IsLine, Comment, Line, NoMore, LastLine, NextLine, Says}
 use Rattle.upd_deck.proofs.CallLaws.{call_read, call_said}
 use Rattle.upd_deck.proofs.GrammarRuns.{run_back}
-use Rattle.upd_correct.specs.RunLines.{written}
 use Rattle.upd_correct.specs.EditedText.{begun_with}
 use Rattle.upd_correct.specs.Problems.{item_problem}
 use Rattle.upd_correct.specs.Refusals.{head_by_item}
@@ -47,46 +46,32 @@ lines_at_feed bytes i within none feed =
     ∙ ap (λ line. line ∷ lines_in (drop (i + 1) bytes))
     (ap (λ b. take i bytes ++ b ∷ []) (sym feed) ∙ sym (take_more bytes i 0 within))
 
--- ---- a line that is read is spelled
+-- ---- a line that is read has the item that the grammar gives it
 
-own_text : (text line : List ℕ) → IsTextOf text line → IsTextOf text text
-own_text text line (Trimmed _ n allowed short inked) = subst (IsTextOf text) (append-nil text) (Trimmed text 0 allowed short inked)
+-- lines with their items
+abbrev pub AreSaid : List LineView → Type 0
+AreSaid lines = AllByRecursion (λ line. Says line.text line.item) lines
 
--- lines that are spelled, as they are written
-abbrev pub AreSpelled : List LineView → Type 0
-AreSpelled lines = AllByRecursion (λ line. IsSpelled (written line)) lines
+line_said : (number start : ℕ) (line : List ℕ) (lines : List LineView) → IsLine number start line lines → AreSaid lines
+line_said number start line lines (Comment _ _ _ text few is comment) = tt
+line_said number start line lines (Line _ _ _ text item few is no_comment says) = (says, tt)
 
-line_spelled : (number start : ℕ) (line : List ℕ) (lines : List LineView) → IsLine number start line lines → AreSpelled lines
-line_spelled number start line lines (Comment _ _ _ text few is comment) = tt
-line_spelled number start line lines (Line _ _ _ text item few is no_comment says) =
-    (record { text = own_text text line is; kept = no_comment; item = says }, tt)
+lines_said : (number start : ℕ) (bytes : List ℕ) (lines : List LineView) → AreLines number start bytes lines → AreSaid lines
+lines_said number start bytes lines (NoMore _ _) = tt
+lines_said number start bytes lines (LastLine _ _ _ _ some is) = line_said number start bytes lines is
+lines_said number start bytes lines (NextLine _ _ line end rest said later is ends more) =
+    all_append (λ line. Says line.text line.item) said later (line_said number start line said is) (lines_said _ _ rest later more)
 
-lines_spelled : (number start : ℕ) (bytes : List ℕ) (lines : List LineView) → AreLines number start bytes lines → AreSpelled lines
-lines_spelled number start bytes lines (NoMore _ _) = tt
-lines_spelled number start bytes lines (LastLine _ _ _ _ some is) = line_spelled number start bytes lines is
-lines_spelled number start bytes lines (NextLine _ _ line end rest said later is ends more) =
-    all_append (λ line. IsSpelled (written line)) said later (line_spelled number start line said is) (lines_spelled _ _ rest later more)
-
-pub read_spelled : (bytes : List ℕ) (lines : List LineView) → reading bytes ≡ Ok lines → AreSpelled lines
-read_spelled bytes lines e = let read = run_back bytes lines e in lines_spelled 1 0 bytes lines read.spelled
-
-pub taken_spelled : (bytes : List ℕ) (line : RunLine) → IsReadAs bytes line → IsSpelled line
-taken_spelled bytes line is = let spelled = read_spelled bytes (is.0 ∷ []) is.1 in subst IsSpelled is.2 spelled.0
-
-pub all_spelled : (pieces : List (List ℕ)) (lines : List RunLine) → AllZip IsReadAs pieces lines → AllByRecursion IsSpelled lines
-all_spelled [] [] are = tt
-all_spelled [] (line ∷ lines) are = absurd are
-all_spelled (piece ∷ pieces) [] are = absurd are
-all_spelled (piece ∷ pieces) (line ∷ lines) are = (taken_spelled piece line are.0, all_spelled pieces lines are.1)
+read_said : (bytes : List ℕ) (lines : List LineView) → reading bytes ≡ Ok lines → AreSaid lines
+read_said bytes lines e = let read = run_back bytes lines e in lines_said 1 0 bytes lines read.spelled
 
 -- ---- the line of a card
 
-pub card_line_is : (text : List ℕ) → IsCardLine (card_line text)
-card_line_is text = go (is_call text) refl
-  where
-    go : (b : Bool) → is_call text ≡ b → IsCardLine (card_line text)
-    go true e = rw e tt
-    go false e = rw e tt
+-- an item that becomes a card: text or a call
+abbrev pub IsCardItem : ItemView → Type 0
+IsCardItem Text = Unit {0}
+IsCardItem (Call name) = Unit {0}
+IsCardItem _ = ⊥
 
 said_text : (text : List ℕ) → Says text Text → card_line text ≡ record { text = text; item = Text }
 said_text text says = go (is_call text) refl
@@ -106,9 +91,7 @@ said_card text _ is says = absurd is
 -- a line that is read as text or a call is that of a card
 pub read_card : (bytes : List ℕ) (read : LineView) → reading bytes ≡ Ok (read ∷ []) → IsCardItem read.item → IsReadAs bytes (card_line read.text)
 read_card bytes read e is =
-    let spelled = read_spelled bytes (read ∷ []) e in
-    let own : IsSpelled (written read) = spelled.0 in
-    (read, e, said_card read.text read.item is own.item)
+    let said = read_said bytes (read ∷ []) e in (read, e, said_card read.text read.item is said.0)
 
 -- it has no problem alone, and begins no deck
 pub card_reading : (bytes : List ℕ) (read : LineView) → reading bytes ≡ Ok (read ∷ []) → IsCardItem read.item → HasReading bytes None None
@@ -159,12 +142,3 @@ line_read lines bytes text front old new d e was now grown is zip =
     ∙ last_piece new_deck_lines front d (record d { lines = d.lines ++ card_line text ∷ [] }) (card_line text ∷ []) refl
     ∙ ap (λ x. flat_map new_deck_lines x ++ card_line text ∷ []) (sym was)))
     (zip_end IsReadAs lines (flat_map new_deck_lines old) bytes (card_line text) zip is)
-
-pub deck_grown : (front old new : List NewDeck) (d e : NewDeck) (text : List ℕ) → old ≡ front ++ d ∷ [] → new ≡ front ++ e ∷ []
-    → e ≡ record d { lines = d.lines ++ card_line text ∷ [] } → AllByRecursion IsEditedDeck old → AllByRecursion IsEditedDeck new
-deck_grown front old new d e text was now grown all =
-    let before : AllByRecursion IsEditedDeck (front ++ d ∷ []) = subst (AllByRecursion IsEditedDeck) was all in
-    let one : IsEditedDeck d = (all_back IsEditedDeck front (d ∷ []) before).0 in
-    subst (AllByRecursion IsEditedDeck) (sym (now ∙ ap (λ x. front ++ x ∷ []) grown))
-    (all_append IsEditedDeck front _ (all_front IsEditedDeck front (d ∷ []) before)
-    (record { plain = one.plain; lines = all_append IsCardLine d.lines (card_line text ∷ []) one.lines (card_line_is text, tt) }, tt))

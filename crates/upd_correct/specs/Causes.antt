@@ -1,55 +1,51 @@
 -- Why there is no run for an edited text.
-use Rattle.std.specs.Prelude.{◌≡◌, ◌<◌, List, [], ◌∷◌, length, Err}
+use Rattle.std.specs.Prelude.{◌≡◌, ◌<◌, List, [], ◌∷◌, length, map, Err}
+use Rattle.std.specs.List.{filter}
 use Rattle.upd_text.specs.declared.limits.TheConstants.{MAX_RUN_BYTES, MAX_RUN_LINES}
 use Rattle.upd_text.specs.declared.fault.Fault.{Fault}
 use Rattle.upd_text.specs.declared.fault.FaultKind.TheVariants as fault
 use Rattle.upd_text.specs.Units.{Bytes}
 use Rattle.upd_core.specs.Library.{LibraryView}
-use Rattle.upd_correct.specs.Corrections.{Edit, NewDeck, edit_lines}
-use Rattle.upd_correct.specs.RunLines.{run_of}
+use Rattle.upd_deck.specs.Reading.{is_feed}
+use Rattle.upd_correct.specs.declared.in_the_way.InTheWay.{InTheWay}
 use Rattle.upd_correct.specs.declared.refusal.CorrectError.{CorrectError}
 use Rattle.upd_correct.specs.declared.refusal.CorrectError.TheVariants.{NoMemory, Refused}
 use Rattle.upd_correct.specs.declared.refusal.Problem.{Problem}
-use Rattle.upd_correct.specs.declared.refusal.Problem.TheVariants.{TooManyLines, RunLong, Full, Unchecked}
+use Rattle.upd_correct.specs.declared.refusal.Problem.TheVariants.{Conflict, TooManyLines, RunLong, Full, Unchecked}
 use Rattle.upd_correct.specs.declared.refusal.Refusal.{Refusal}
-use Rattle.upd_correct.specs.EditedText.{HasDecks}
 use Rattle.upd_correct.specs.Checked.{result_of}
-use Rattle.upd_correct.specs.Plans.{AreCorrectionsFor, new_decks}
 use Rattle.upd_correct.specs.Refusals.{refusals_of}
-use Rattle.upd_correct.specs.Runs.{IsRunFor}
 
--- An edit leads the decks of an edited text to it, under the name of a set.
-pub record IsEditFor (l : LibraryView) (set text : Bytes) (e : Edit) : Type 0 where
-  pub decks : List NewDeck
-  pub given : HasDecks text decks
-  pub named : e.set ≡ set
-  pub corrections : AreCorrectionsFor l decks e.corrections
-  pub added : e.added ≡ new_decks l decks
+-- The run is too long, or the library has no room for it; or it does not pass the check, and this doesn't say why.
+abbrev pub IsRunProblem : LibraryView → Bytes → Problem → Type 0
+IsRunProblem l run TooManyLines = MAX_RUN_LINES < length (filter is_feed run)
+IsRunProblem l run RunLong = MAX_RUN_BYTES < length run
+IsRunProblem l run Full = (refusal : Fault) × (refusal.kind ≡ fault.Full) × (result_of run l ≡ Err refusal)
+IsRunProblem l run Unchecked = Unit {0}
+IsRunProblem l run _ = ⊥
 
--- the run of an edit has too many lines or bytes
-abbrev pub IsTooLong : LibraryView → Edit → Problem → Type 0
-IsTooLong l e TooManyLines = MAX_RUN_LINES < length (edit_lines l.idents e)
-IsTooLong l e RunLong = MAX_RUN_BYTES < length (run_of (edit_lines l.idents e))
-IsTooLong l e _ = ⊥
+-- a refusal that is not one of a line
+abbrev pub refusal_at_0 : Problem → Refusal
+refusal_at_0 problem = record { line = 0; column = 0; problem = problem }
 
--- a library has no room for a run
-abbrev pub HasNoRoom : LibraryView → Bytes → Type 0
-HasNoRoom l run = (refusal : Fault) × (refusal.kind ≡ fault.Full) × (result_of run l ≡ Err refusal)
+-- the refusals for cards that are in the way
+abbrev pub conflicts : List InTheWay → List Refusal
+conflicts found = map (λ way. refusal_at_0 (Conflict way.card way.set)) found
 
--- The run of an edit for the text is too long, or the library has no room for a run for the text. Or a run for the text does not pass the
--- check; this doesn't say why.
-abbrev pub IsRunProblem : LibraryView → Bytes → Bytes → Problem → Type 0
-IsRunProblem l set text Full = (run : Bytes) × IsRunFor l set text run × HasNoRoom l run
-IsRunProblem l set text Unchecked = (run : Bytes) × IsRunFor l set text run
-IsRunProblem l set text problem = (e : Edit) × IsEditFor l set text e × IsTooLong l e problem
-
--- An edited text is refused for all that is wrong with it or, where that is nothing, for what is wrong with the run.
-pub data AreRefusals (l : LibraryView) (set text : Bytes) (refusals : List Refusal) : Type 0 where
-  OfText : (refusals ≡ [] → ⊥) → refusals ≡ refusals_of l set text → AreRefusals l set text refusals
-  OfRun : (problem : Problem) → refusals_of l set text ≡ [] → refusals ≡ record { line = 0; column = 0; problem = problem } ∷ []
-      → IsRunProblem l set text problem → AreRefusals l set text refusals
+-- An edited text is refused for all that is wrong with it in the library that it was taken from. Where that is nothing, it is refused for what is
+-- wrong with the run that was found in the library that it meets, or for the cards that are in its way there.
+pub data AreRefusals (taken l : LibraryView) (set text : Bytes) (refusals : List Refusal) : Type 0 where
+  OfText : (refusals ≡ [] → ⊥) → refusals ≡ refusals_of taken set text → AreRefusals taken l set text refusals
+  OfRun : (problem : Problem) (run : Bytes) → refusals_of taken set text ≡ [] → refusals ≡ refusal_at_0 problem ∷ []
+      → IsRunProblem l run problem → AreRefusals taken l set text refusals
+  OfCards : (found : List InTheWay) → (found ≡ [] → ⊥) → refusals_of taken set text ≡ [] → refusals ≡ conflicts found
+      → AreRefusals taken l set text refusals
 
 -- the cause of an error: memory runs out at any time
+abbrev pub IsCauseSince : LibraryView → LibraryView → Bytes → Bytes → CorrectError → Type 0
+IsCauseSince taken l set text NoMemory = Unit {0}
+IsCauseSince taken l set text (Refused refusals) = AreRefusals taken l set text refusals.items
+
+-- the same of a text that was taken from the library that the run meets
 abbrev pub IsCause : LibraryView → Bytes → Bytes → CorrectError → Type 0
-IsCause l set text NoMemory = Unit {0}
-IsCause l set text (Refused refusals) = AreRefusals l set text refusals.items
+IsCause l = IsCauseSince l l

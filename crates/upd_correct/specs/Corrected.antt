@@ -1,6 +1,6 @@
 -- What corrections do to the cards and the texts of decks.
-use Rattle.std.specs.Prelude.{false, if◌then◌else◌, List, [], ◌++◌, map}
-use Rattle.std.specs.List.{filter, flat_map}
+use Rattle.std.specs.Prelude.{false, if◌then◌else◌, List, map}
+use Rattle.std.specs.List.{filter}
 use Rattle.upd_text.specs.Units.{Bytes}
 use Rattle.upd_core.specs.declared.ident.Kind.TheVariants.{Deck, Common}
 use Rattle.upd_core.specs.declared.ident.Kind.{Kind}
@@ -9,7 +9,7 @@ use Rattle.upd_core.specs.Edits.{entered}
 use Rattle.upd_core.specs.Library.{CardView, LibraryView, cards_of}
 use Rattle.upd_core.specs.Serials.{Serial}
 use Rattle.upd_core.specs.Status.{is_active, live_targets}
-use Rattle.upd_correct.specs.Corrections.{NewDeck, Segment, segment_cards}
+use Rattle.upd_correct.specs.EditedText.{NewDeck}
 
 -- a card that set z switches off
 abbrev pub switched_off : Serial → CardView → CardView
@@ -23,18 +23,6 @@ kind_of d = if d.common then Common else Deck
 abbrev pub active_cards : Serial → LibraryView → List CardView
 active_cards d l = filter (is_active (live_targets l) d) (cards_of d l)
 
--- the texts of the active cards of a deck
-abbrev pub active_texts : Serial → LibraryView → List Bytes
-active_texts d l = map (λ c. c.text) (active_cards d l)
-
--- the active cards of a segment that stay
-abbrev pub staying_of : List Target → Serial → Segment → List CardView
-staying_of live d s = if s.goes then [] else filter (is_active live d) (segment_cards s)
-
--- the texts of a segment after the correction: those of the active cards that stay, and those of the lines
-abbrev pub segment_texts : List Target → Serial → Segment → List Bytes
-segment_texts live d s = map (λ c. c.text) (staying_of live d s) ++ map (λ line. line.text) s.lines
-
--- the texts of segments after the correction
-abbrev pub corrected_texts : List Target → Serial → List Segment → List Bytes
-corrected_texts live d segments = flat_map (segment_texts live d) segments
+-- the texts of the cards of a deck that are active where these targets are live
+abbrev pub texts_under : List Target → Serial → LibraryView → List Bytes
+texts_under live d l = map (λ c. c.text) (filter (is_active live d) (cards_of d l))

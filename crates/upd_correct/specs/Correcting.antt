@@ -1,17 +1,17 @@
 -- What a correction run does to a library.
-use Rattle.std.specs.Prelude.{◌≡◌, ◌<◌, ◌==◌, ◌⊎◌, not, List, [], ◌∷◌, ◌++◌, codes, Some, Ok}
+use Rattle.std.specs.Prelude.{◌≡◌, ◌<◌, ◌==◌, ◌⊎◌, not, List, [], ◌∷◌, ◌++◌, codes, length, Some, Ok}
 use Rattle.std.specs.List.{filter, AllByRecursion}
 use Rattle.upd_text.specs.Units.{Bytes}
 use Rattle.upd_core.specs.Edits.{next_age}
 use Rattle.upd_core.specs.Library.{LibraryView, deck_of}
 use Rattle.upd_core.specs.Serials.{Serial}
+use Rattle.upd_core.specs.Status.{live_targets}
 use Rattle.upd_deck.specs.Items.{LineView}
 use Rattle.upd_deck.specs.Reading.{reading}
 use Rattle.upd_apply.specs.Applying.{Reached, applied}
 use Rattle.upd_correct.specs.Checked.{Corrects, HasTexts}
 use Rattle.upd_correct.specs.Corrected.{active_cards}
-use Rattle.upd_correct.specs.Corrections.{NewDeck}
-use Rattle.upd_correct.specs.EditedText.{HasDecks}
+use Rattle.upd_correct.specs.EditedText.{HasDecks, NewDeck}
 
 -- a list without some of its elements
 pub data IsSublist {A : Type 0} : List A → List A → Type 0 where
@@ -30,19 +30,24 @@ KeepsCards before after d =
 abbrev pub BeginsWithSet : Bytes → Bytes → Type 0
 BeginsWithSet set run = (run ≡ []) ⊎ ((rest : Bytes) × (run ≡ codes "*IDENT " ++ (set ++ 10 ∷ rest)))
 
--- A run by a set leads the decks of an edited text to it, and changes nothing else. Where they have their texts already, it is empty.
-pub record CorrectsTo (l : LibraryView) (set text run : Bytes) : Type 0 where
+-- A run by a set leads the decks of an edited text to it, and changes nothing else. The text was taken from the library `taken`, when the
+-- ident with serial `last` was the youngest; the run meets the library l. What a run meets is judged there: it is accepted, and each card
+-- that is younger is as it was. The text is that of the yanks of `taken`. Where the decks have it already, the run is empty.
+pub record CorrectsSince (last : Serial) (taken l : LibraryView) (set text run : Bytes) : Type 0 where
   pub decks : List NewDeck
   pub given : HasDecks text decks
   pub named : BeginsWithSet set run
-  pub needed : AllByRecursion (HasTexts l) decks → run ≡ []
+  pub needed : AllByRecursion (HasTexts (live_targets taken) taken) decks → run ≡ []
   pub lines : List LineView
   pub after : Reached
   pub read : reading run ≡ Ok lines
   pub accepted : applied lines l ≡ Ok after
   pub compile : after.compile ≡ []
-  pub whole : Corrects l set run decks after.library
-  pub texts : AllByRecursion (HasTexts after.library) decks
+  pub whole : Corrects (live_targets taken) last l set run decks after.library
   pub others : (deck : Serial) → deck < next_age l → AllByRecursion (λ d. deck_of d.name l ≡ Some deck → ⊥) decks
       → active_cards deck after.library ≡ active_cards deck l
   pub kept : AllByRecursion (KeepsCards l after.library) decks
+
+-- the same of a text that was taken from the library that the run meets
+abbrev pub CorrectsTo : LibraryView → Bytes → Bytes → Bytes → Type 0
+CorrectsTo l = CorrectsSince (length l.idents) l l

@@ -1,15 +1,9 @@
-pub mod RunLines
-pub mod Corrections
 pub mod Corrected
 pub mod EditedText
-pub mod Scripts
 pub mod Problems
 pub mod Refusals
 pub mod LineReads
-pub mod Plans
 pub mod ReadDecks
-pub mod Writing
-pub mod Runs
 pub mod Checked
 pub mod Correcting
 pub mod Causes

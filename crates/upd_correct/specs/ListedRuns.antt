@@ -1,15 +1,22 @@
 -- The run that is made from a deck's listing, or why there is none.
-use Rattle.std.specs.Prelude.{◌≡◌, ℕ, ◌+◌, Option, Some, None}
+use Rattle.std.specs.Prelude.{◌≡◌, ℕ, ◌+◌, Bool, false, not, Option, Some, None}
+use Rattle.std.specs.Option.{option_map_or}
+use Rattle.std.specs.Str.{bytes_eq}
 use Rattle.upd_text.specs.Units.{Bytes}
 use Rattle.upd_core.specs.Counts.{capped}
 use Rattle.upd_core.specs.First.{index_from}
+use Rattle.upd_deck.specs.Reading.{reading}
 use Rattle.upd_correct.specs.Causes.{AreRefusals}
 use Rattle.upd_correct.specs.Correcting.{CorrectsTo}
 use Rattle.upd_correct.specs.EditedText.{lines_in}
-use Rattle.upd_correct.specs.Runs.{IsRunFor, begins_other}
+use Rattle.upd_correct.specs.Refusals.{head_read}
 use Rattle.upd_correct.specs.declared.listed_deck.ListedError.{ListedError}
 use Rattle.upd_correct.specs.declared.listed_deck.ListedError.TheVariants.{NoMemory, NotListing, OtherDeck, Refused}
 use Rattle.upd_correct.specs.ListedDeck.{bad_line, library_of, name_listed}
+
+-- whether a line begins a deck of another name
+abbrev pub begins_other : Bytes → Bytes → Bool
+begins_other name line = option_map_or (λ d. not (bytes_eq d.name name)) (head_read (reading line)) false
 
 -- the index of the first line of a text that begins a deck other than the listed one
 abbrev pub other_deck : Bytes → Bytes → Option ℕ
@@ -20,10 +27,9 @@ pub record IsRead (listing text : Bytes) : Type 0 where
   pub listed : bad_line (lines_in listing) ≡ None
   pub own : other_deck listing text ≡ None
 
--- A run is that of the edited text in the library that a listing stands for, and it was checked there.
+-- A run leads the listed deck to the edited text in the library that the listing stands for.
 pub record IsListedRun (listing set text run : Bytes) : Type 0 where
   pub read : IsRead listing text
-  pub made : IsRunFor (library_of (lines_in listing)) set text run
   pub corrects : CorrectsTo (library_of (lines_in listing)) set text run
 
 -- Memory runs out at any time. Otherwise a line is the first that isn't one of a listing; or, where the listing is read,
@@ -33,4 +39,5 @@ IsListedCause listing set text NoMemory = Unit {0}
 IsListedCause listing set text (NotListing line) = bad_line (lines_in listing) ≡ Some line
 IsListedCause listing set text (OtherDeck line) =
     (bad_line (lines_in listing) ≡ None) × (index : ℕ) × (other_deck listing text ≡ Some index) × (line ≡ capped (index + 1))
-IsListedCause listing set text (Refused refusals) = IsRead listing text × AreRefusals (library_of (lines_in listing)) set text refusals.items
+IsListedCause listing set text (Refused refusals) =
+    let l = library_of (lines_in listing) in IsRead listing text × AreRefusals l l set text refusals.items

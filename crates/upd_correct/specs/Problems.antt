@@ -1,5 +1,5 @@
 -- Why an edited text is refused.
-use Rattle.std.specs.Prelude.{◌≡◌, ℕ, ◌+◌, not, ◌||◌, if◌then◌else◌, List, [], ◌∷◌, ◌++◌, length, Option, Some, None, is_some, Result, Ok, Err}
+use Rattle.std.specs.Prelude.{ℕ, ◌+◌, not, ◌||◌, if◌then◌else◌, List, [], ◌∷◌, length, Option, Some, None, is_some, Result, Ok, Err}
 use Rattle.std.specs.Option.{option_map_or}
 use Rattle.std.specs.List.{list_any}
 use Rattle.std.specs.Str.{bytes_eq}
@@ -16,7 +16,7 @@ use Rattle.upd_core.specs.Status.{is_active, live_targets}
 use Rattle.upd_deck.specs.Items.{ItemView, LineView, Text, Call, Deck, CommonDeck}
 use Rattle.upd_deck.specs.Reading.{is_allowed}
 use Rattle.upd_apply.specs.Names.{is_reserved}
-use Rattle.upd_correct.specs.Corrections.{NewDeck}
+use Rattle.upd_correct.specs.EditedText.{NewDeck}
 use Rattle.upd_correct.specs.declared.refusal.Problem.{Problem}
 use Rattle.upd_correct.specs.declared.refusal.Problem.TheVariants.{BadByte, LineLong, Comment, Directive, FirstCard, OutOfUse, DeckTwice, NameTaken, Reserved}
 use Rattle.upd_correct.specs.declared.refusal.Problem.TheVariants.{BadName}
@@ -77,8 +77,3 @@ set_problem l set =
     if is_name set
     then (if is_reserved set then Some Reserved else if is_some (held_named set l.idents) then Some NameTaken else None)
     else Some BadName
-
--- no deck has a problem, after decks of these names
-abbrev pub HasNoProblem : LibraryView → Bytes → List Bytes → List NewDeck → Type 0
-HasNoProblem l set names [] = Unit {0}
-HasNoProblem l set names (d ∷ decks) = (deck_problem l set names d ≡ None) × HasNoProblem l set (names ++ d.name ∷ []) decks

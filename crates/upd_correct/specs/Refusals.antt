@@ -7,11 +7,10 @@ use Rattle.upd_text.specs.Units.{Bytes}
 use Rattle.upd_core.specs.Library.{LibraryView}
 use Rattle.upd_deck.specs.Items.{ItemView, LineView, Deck, CommonDeck}
 use Rattle.upd_deck.specs.Reading.{reading}
-use Rattle.upd_correct.specs.Corrections.{NewDeck}
 use Rattle.upd_correct.specs.declared.refusal.Problem.{Problem}
 use Rattle.upd_correct.specs.declared.refusal.Problem.TheVariants.{NoDeck}
 use Rattle.upd_correct.specs.declared.refusal.Refusal.{Refusal}
-use Rattle.upd_correct.specs.EditedText.{lines_in}
+use Rattle.upd_correct.specs.EditedText.{NewDeck, lines_in}
 use Rattle.upd_correct.specs.Problems.{deck_problem, line_problem, problem_column, set_problem}
 
 -- the deck that a line begins, by its text and its item

@@ -62,14 +62,24 @@ pub(crate) fn are_same_cards(old: &[Card], new: &[Card]) -> bool
     true
 }
 
-/// Whether a card of a deck is as it was, or was active and is switched off by a set.
-fn is_left(live: &Live, deck: Serial, set: usize, old: &Card, new: &Card) -> bool
-    ensures { IsTrue result → IsLeft live.now.targets deck set old.now new.now }
+/// Whether a card of a deck is as it was, or is not younger than an ident, was active for the text and is off by one entry
+/// more, of a set.
+fn is_left(
+    taken: &Live,
+    live: &Live,
+    deck: Serial,
+    set: usize,
+    last: usize,
+    old: &Card,
+    new: &Card,
+) -> bool
+    ensures { IsTrue result → IsLeft taken.now.targets live.now.targets deck set last old.now new.now }
 {
     if is_same_card(old, new) {
         return true;
     }
-    live.is_active(deck, old)
+    old.ident as usize <= last
+        && taken.is_active(deck, old)
         && !live.is_active(deck, new)
         && is_same_face(old, new)
         && is_entered(&old.history, &new.history, set)
@@ -94,15 +104,17 @@ fn is_off(entry: &Entry, set: usize) -> bool
 
 /// The old cards that are left to be found after the next card of the deck; none where the card may not stand there.
 fn next_left<'a>(
+    taken: &Live,
     live: &Live,
     deck: Serial,
     set: usize,
+    last: usize,
     olds: &'a [Card],
     new: &Card,
 ) -> Option<&'a [Card]>
     ensures { (news : List CardView)
-        → IfSome result (λ rest. AreLeft live.now.targets deck set rest.now news
-        → AreLeft live.now.targets deck set olds.now (new.now ∷ news)) }
+        → IfSome result (λ rest. AreLeft taken.now.targets live.now.targets deck set last rest.now news
+        → AreLeft taken.now.targets live.now.targets deck set last olds.now (new.now ∷ news)) }
 {
     if new.ident as usize == set {
         if live.is_active(deck, new) {
@@ -113,7 +125,7 @@ fn next_left<'a>(
     match olds {
         [] => None,
         [old, rest @ ..] => {
-            if is_left(live, deck, set, old, new) {
+            if is_left(taken, live, deck, set, last, old, new) {
                 Some(rest)
             } else {
                 None
@@ -122,14 +134,22 @@ fn next_left<'a>(
     }
 }
 
-/// Whether the cards of a deck after a run by a set are those before it, each as it was or switched off, and active
-/// cards of the set.
-pub(crate) fn are_left(live: &Live, deck: Serial, set: usize, olds: &[Card], news: &[Card]) -> bool
-    ensures { IsTrue result → AreLeft live.now.targets deck set olds.now news.now }
+/// Whether the cards of a deck after a run by a set are those before it, each as it was or, if it is not younger than an
+/// ident and active for the text, switched off, and active cards of the set.
+pub(crate) fn are_left(
+    taken: &Live,
+    live: &Live,
+    deck: Serial,
+    set: usize,
+    last: usize,
+    olds: &[Card],
+    news: &[Card],
+) -> bool
+    ensures { IsTrue result → AreLeft taken.now.targets live.now.targets deck set last olds.now news.now }
 {
     let mut rest = olds;
     for card in news {
-        match next_left(live, deck, set, rest, card) {
+        match next_left(taken, live, deck, set, last, rest, card) {
             Some(after) => rest = after,
             None => return false,
         }

@@ -17,6 +17,7 @@ use crate::checked_cards::{are_left, are_same_cards};
 use crate::checked_decks::{are_decks_from, are_decks_left};
 use crate::checked_idents::{are_same_idents, brings};
 use crate::checked_texts::{active_texts, are_texts_of};
+use crate::correcting::EditBase;
 use crate::edited_deck::EditedDeck;
 use crate::plan::added_decks;
 use std::alloc::{AllocError, Global};
@@ -83,27 +84,51 @@ fn is_rest(before: &Library, after: &Library) -> bool
 }
 
 /// Whether the cards of a new deck are its own, and active.
-fn has_own_cards(after: &Library, live: &Live, deck: &EditedDeck) -> bool
+fn has_own_cards(after: &Library, taken: &Live, live: &Live, deck: &EditedDeck) -> bool
     ensures { (age : ℕ) → IsTrue result → deck_of deck.now.name after.now ≡ Some age
-        → AreLeft live.now.targets age age [] (cards_of age after.now) }
+        → AreLeft taken.now.targets live.now.targets age age age [] (cards_of age after.now) }
 {
     match after.deck_of(&deck.name) {
         None => false,
-        Some(age) => are_left(live, age, age as usize, &[], after.cards_of(age)),
+        Some(age) => are_left(
+            taken,
+            live,
+            age,
+            age as usize,
+            age as usize,
+            &[],
+            after.cards_of(age),
+        ),
     }
 }
 
-/// Whether the old cards of a deck are as they were or switched off, and its others are of the new set.
-fn leaves_cards(before: &Library, after: &Library, live: &Live, deck: &EditedDeck) -> bool
+/// Whether the old cards of a deck are as they were or, if they are not younger than an ident and active for the text,
+/// switched off, and its others are of the new set.
+fn leaves_cards(
+    before: &Library,
+    after: &Library,
+    taken: &Live,
+    live: &Live,
+    last: usize,
+    deck: &EditedDeck,
+) -> bool
     requires { live.now ≡ live_of before.now }
-    ensures old { IsTrue result → LeavesCards before.now after.now deck.now }
-    ensures own { IsTrue result → HasOwnCards before.now after.now deck.now }
+    ensures old { IsTrue result → LeavesCards taken.now.targets last before.now after.now deck.now }
+    ensures own { IsTrue result → HasOwnCards taken.now.targets before.now after.now deck.now }
 {
     match before.deck_of(&deck.name) {
-        None => has_own_cards(after, live, deck),
+        None => has_own_cards(after, taken, live, deck),
         Some(age) => {
             let set = before.idents().len() + 1;
-            are_left(live, age, set, before.cards_of(age), after.cards_of(age))
+            are_left(
+                taken,
+                live,
+                age,
+                set,
+                last,
+                before.cards_of(age),
+                after.cards_of(age),
+            )
         }
     }
 }
@@ -115,7 +140,7 @@ fn has_texts(
     live: &Live,
     deck: &EditedDeck,
 ) -> Result<bool, AllocError>
-    ensures { live.now.targets ≡ live_targets after.now → IfOk result (λ ok. Decides ok (HasTexts after.now deck.now)) }
+    ensures { IfOk result (λ ok. Decides ok (HasTexts live.now.targets after.now deck.now)) }
 {
     let Some(age) = after.deck_of(&deck.name) else {
         return Ok(false);
@@ -131,8 +156,7 @@ pub(crate) fn have_texts(
     live: &Live,
     decks: &[EditedDeck],
 ) -> Result<bool, AllocError>
-    ensures { live.now.targets ≡ live_targets after.now
-        → IfOk result (λ ok. Decides ok (AllByRecursion (HasTexts after.now) decks.now)) }
+    ensures { IfOk result (λ ok. Decides ok (AllByRecursion (HasTexts live.now.targets after.now) decks.now)) }
 {
     for deck in decks {
         if !has_texts(alloc, after, live, deck)? {
@@ -143,12 +167,19 @@ pub(crate) fn have_texts(
 }
 
 /// [`leaves_cards`] for all decks of a text.
-fn leave_cards(before: &Library, after: &Library, live: &Live, decks: &[EditedDeck]) -> bool
+fn leave_cards(
+    before: &Library,
+    after: &Library,
+    taken: &Live,
+    live: &Live,
+    last: usize,
+    decks: &[EditedDeck],
+) -> bool
     requires { live.now ≡ live_of before.now }
-    ensures { IsTrue result → AllByRecursion (LeadsCards before.now after.now) decks.now }
+    ensures { IsTrue result → AllByRecursion (LeadsCards taken.now.targets last before.now after.now) decks.now }
 {
     for deck in decks {
-        if !leaves_cards(before, after, live, deck) {
+        if !leaves_cards(before, after, taken, live, last, deck) {
             return false;
         }
     }
@@ -184,15 +215,17 @@ pub(crate) fn is_led(
 /// Whether a run by a set led the decks of a text to it, and changed nothing else.
 pub(crate) fn is_corrected(
     alloc: Global,
-    before: &Library,
+    base: &EditBase,
     after: &Library,
     set: &[u8],
     run: &[u8],
     decks: &[EditedDeck],
 ) -> Result<bool, Fault>
-    ensures corrects { IfOk result (λ ok. IsTrue ok → Corrects before.now set.now run.now decks.now after.now) }
+    ensures corrects { IfOk result (λ ok. IsTrue ok → Corrects (live_targets base.now.taken.now) base.now.last
+        base.now.library.now set.now run.now decks.now after.now) }
     ensures err { IsOkUnless result (fault_at NoMemory 0) }
 {
+    let before = base.library;
     let held = held_serials(alloc, before, decks)?;
     let added = added_decks(alloc, before, decks)?;
     if !is_rest(before, after)
@@ -202,9 +235,10 @@ pub(crate) fn is_corrected(
         return Ok(false);
     }
     let live = before.live_yanks()?;
-    if !leave_cards(before, after, &live, decks) {
+    let taken = base.taken.live_yanks()?;
+    if !leave_cards(before, after, &taken, &live, base.last, decks) {
         return Ok(false);
     }
-    let same = have_texts(alloc, after, &live, decks)?;
+    let same = have_texts(alloc, after, &taken, decks)?;
     Ok(same)
 }

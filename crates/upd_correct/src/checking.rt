@@ -6,11 +6,13 @@ ghost use Rattle.std.specs.Result.{IsOkUnless};
 ghost use Rattle.upd_text.specs.Faults.{fault_at};
 ghost use Rattle.upd_text.specs.declared.fault.FaultKind.TheVariants.{NoMemory};
 ghost use Rattle.upd_text.specs.Outcome.{FailsAt};
-ghost use Rattle.upd_correct.specs.Correcting.{BeginsWithSet, CorrectsTo};
+ghost use Rattle.upd_core.specs.Status.{live_targets};
+ghost use Rattle.upd_correct.specs.Correcting.{BeginsWithSet, CorrectsSince};
 ghost use Rattle.upd_correct.specs.EditedText.{HasDecks};
 ghost use Rattle.upd_correct.specs.Checked.{HasTexts, IsChecked, result_of};
 
 use crate::checked_library::{have_texts, is_corrected};
+use crate::correcting::EditBase;
 use crate::edited_deck::EditedDeck;
 use std::alloc::Global;
 use upd_apply::reach;
@@ -22,24 +24,26 @@ use upd_text::Fault;
 /// that is not accepted.
 pub(crate) fn checked(
     alloc: Global,
-    library: &Library,
+    base: &EditBase,
     set: &[u8],
     decks: &[EditedDeck],
     run: &[u8],
 ) -> Result<bool, Fault>
     ensures corrects { (text : List ℕ) → HasDecks text decks.now
-        → IfOk result (λ ok. IsTrue ok → CorrectsTo library.now set.now text run.now) }
-    ensures whole { IfOk result (λ ok. IsTrue ok → IsChecked library.now set.now run.now decks.now) }
-    ensures refused { IfErr result (λ fault. FailsAt fault (result_of run.now library.now)) }
+        → IfOk result (λ ok. IsTrue ok → CorrectsSince base.now.last base.now.taken.now base.now.library.now
+        set.now text run.now) }
+    ensures whole { IfOk result (λ ok. IsTrue ok → IsChecked (live_targets base.now.taken.now) base.now.last
+        base.now.library.now set.now run.now decks.now) }
+    ensures refused { IfErr result (λ fault. FailsAt fault (result_of run.now base.now.library.now)) }
 {
     if !begins_with_set(set, run) {
         return Ok(false);
     }
-    let needed = is_needed(alloc, library, decks, run)?;
+    let needed = is_needed(alloc, base.taken, decks, run)?;
     if !needed {
         return Ok(false);
     }
-    applied_checked(alloc, library, set, decks, run)
+    applied_checked(alloc, base, set, decks, run)
 }
 
 /// Whether a run is empty, or a deck hasn't the text of its lines yet.
@@ -49,7 +53,7 @@ fn is_needed(
     decks: &[EditedDeck],
     run: &[u8],
 ) -> Result<bool, Fault>
-    ensures needed { IfOk result (λ ok. IsTrue ok → AllByRecursion (HasTexts library.now) decks.now → run.now ≡ []) }
+    ensures needed { IfOk result (λ ok. IsTrue ok → AllByRecursion (HasTexts (live_targets library.now) library.now) decks.now → run.now ≡ []) }
     ensures err { IsOkUnless result (fault_at NoMemory 0) }
 {
     if run.is_empty() {
@@ -63,20 +67,21 @@ fn is_needed(
 /// The check of the run's effect.
 fn applied_checked(
     alloc: Global,
-    library: &Library,
+    base: &EditBase,
     set: &[u8],
     decks: &[EditedDeck],
     run: &[u8],
 ) -> Result<bool, Fault>
-    ensures whole { IfOk result (λ ok. IsTrue ok → IsChecked library.now set.now run.now decks.now) }
-    ensures refused { IfErr result (λ fault. FailsAt fault (result_of run.now library.now)) }
+    ensures whole { IfOk result (λ ok. IsTrue ok → IsChecked (live_targets base.now.taken.now) base.now.last
+        base.now.library.now set.now run.now decks.now) }
+    ensures refused { IfErr result (λ fault. FailsAt fault (result_of run.now base.now.library.now)) }
 {
     let lines = read_run(alloc, run)?;
-    let reached = reach(alloc, library, &lines)?;
+    let reached = reach(alloc, base.library, &lines)?;
     if !reached.compile.is_empty() {
         return Ok(false);
     }
-    is_corrected(alloc, library, &reached.library, set, run, decks)
+    is_corrected(alloc, base, &reached.library, set, run, decks)
 }
 
 /// Whether a run is empty, or begins with the `*IDENT` of a set.

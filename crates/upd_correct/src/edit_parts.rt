@@ -1,23 +1,35 @@
 //! Edits that are too long for one run: runs that lead decks to an edited text one after the other.
 
-ghost use Rattle.std.specs.Prelude.{◌≡◌, ◌+◌, [], map, IfErr, IfOk, OnOk};
+ghost use Rattle.std.specs.Prelude.{◌≡◌, ◌+◌, ℕ, [], List, length, map, Some, IfErr, IfOk, IsErr, IsTrue, OnOk};
+ghost use Rattle.std.specs.List.{AllByRecursion};
 ghost use Rattle.upd_core.specs.Library.{LibraryView};
-ghost use Rattle.upd_core.specs.Status.{live_of};
+ghost use Rattle.upd_core.specs.Status.{live_targets};
+ghost use Rattle.upd_text.specs.Units.{Bytes};
+ghost use Rattle.upd_correct.specs.Causes.{IsCause};
+ghost use Rattle.upd_correct.specs.Checked.{HasTexts};
+ghost use Rattle.upd_correct.specs.Correcting.{CorrectsTo};
 ghost use Rattle.upd_correct.specs.EditedText.{HasDecks};
-ghost use Rattle.upd_correct.specs.Parts.{CorrectsInParts, Follows, IsPartsCause, IsReached, part_name};
+ghost use Rattle.upd_correct.specs.Parts.{CorrectsInParts, Follows, IsLed, IsPartCause, IsPartsCause, IsReached, in_part, part_name};
+ghost use Rattle.upd_correct.specs.Parts.{part_problem, series_problem};
 ghost use Rattle.upd_correct.specs.Refusals.{refusals_of};
 
-use crate::checked_library::is_led;
-use crate::correcting::{correct, set_refusals};
+use crate::checked_library::{have_texts, is_led};
+use crate::correcting::{correct_by, set_refusals};
 use crate::edit_pieces::{Piece, cuts_of, pieces_of, text_at};
 use crate::edited_deck::{EditedDeck, read_decks, refuse};
-use crate::refusal::{CorrectError, Problem};
+use crate::refusal::{CorrectError, Problem, Refusal};
+use crate::writer::{Deletions, Form};
 use itoa::Buffer;
 use std::alloc::{AllocError, Global};
 use upd_apply::apply;
 use upd_compile::text_parts::push_parts;
-use upd_core::{Library, Live};
+use upd_core::card::card_ref;
+use upd_core::{CardRef, Library, Live};
 use upd_deck::read_run;
+use upd_text::Fault;
+
+/// The longest name of the sets of parts, in bytes: a number follows it.
+const MAX_SERIES_BYTES: usize = 8;
 
 /// The shares of a run's limits that the parts of an edit may take, one after the other until each part fits. A run can
 /// be longer than its part of the edit: it is found anew, and may put the same lines in more places.
@@ -27,8 +39,9 @@ const SHARES: [usize; 3] = [1, 3, 9];
 /// run is enough, it is the only one, as `correct` makes it. Where nothing changes, there is none.
 ///
 /// Each run is made and applied to a copy of the library, and returned only if the last leads to the text and no other
-/// deck is changed. A text is refused as by `correct`; TooManyLines or RunLong says that no cut was found whose parts
-/// fit, Full that the library has no room for one of them, and BadName or NameTaken that the name of one can't be.
+/// deck is changed. A run names a card of the one before it, so that it is refused where that one was. A text is refused as
+/// by `correct`, with the number of the part whose set or room is the problem; TooManyLines or RunLong says that no cut was
+/// found whose parts fit.
 pub fn correct_parts<'a>(
     alloc: Global,
     library: &'a Library,
@@ -39,6 +52,9 @@ pub fn correct_parts<'a>(
     ensures clean { OnOk result (refusals_of library.now (part_name set.now 1) text.now ≡ []) }
     ensures refused { IfErr result (IsPartsCause library.now set.now text.now) }
 {
+    if let Some(problem) = series_problem(set) {
+        return refused_series(alloc, problem);
+    }
     let Ok(live) = library.live_yanks() else {
         return Err(CorrectError::NoMemory);
     };
@@ -46,9 +62,33 @@ pub fn correct_parts<'a>(
     let mut refusals = set_refusals(alloc, library, &first)?;
     let decks = read_decks(alloc, library, &live, &first, text, &mut refusals)?;
     if !refusals.is_empty() {
-        return Err(CorrectError::Refused(refusals));
+        return Err(CorrectError::Refused(in_part(alloc, 1, &refusals)?));
     }
     parts_for(alloc, library, &live, set, text, &decks)
+}
+
+/// What is wrong with the name of the sets of parts, which a number follows.
+fn series_problem(set: &[u8]) -> Option<Problem>
+    ensures { result ≡ series_problem set.now }
+{
+    if set.is_empty() {
+        Some(Problem::NoSet)
+    } else if set.len() > MAX_SERIES_BYTES {
+        Some(Problem::SetLong)
+    } else {
+        None
+    }
+}
+
+/// The error of the name of the sets.
+fn refused_series(alloc: Global, problem: Problem) -> Result<Vec<Vec<u8>>, CorrectError>
+    ensures err { IsErr result }
+    ensures refused { (l : LibraryView) (set text : List ℕ) → series_problem set ≡ Some problem
+        → IfErr result (IsPartsCause l set text) }
+{
+    let mut refusals = Vec::new(alloc);
+    refuse(&mut refusals, 0, 0, problem)?;
+    Err(CorrectError::Refused(refusals))
 }
 
 /// The runs for decks without problems.
@@ -60,9 +100,9 @@ fn parts_for<'a>(
     text: &[u8],
     decks: &[EditedDeck<'a>],
 ) -> Result<Vec<Vec<u8>>, CorrectError>
-    requires { live.now ≡ live_of library.now }
-    ensures { HasDecks text.now decks.now
+    ensures corrects { HasDecks text.now decks.now
         → IfOk result (λ runs. CorrectsInParts library.now set.now text.now (map (λ run. run.items) runs.items)) }
+    ensures refused { IfErr result (IsPartCause library.now set.now) }
 {
     let whole = parts_at(alloc, library, set, text, decks, &[], &[]);
     if !is_too_long(&whole) {
@@ -89,65 +129,190 @@ fn parts_at(
     pieces: &[Piece],
     cuts: &[usize],
 ) -> Result<Vec<Vec<u8>>, CorrectError>
-    ensures { HasDecks text.now decks.now
+    ensures corrects { HasDecks text.now decks.now
         → IfOk result (λ runs. CorrectsInParts library.now set.now text.now (map (λ run. run.items) runs.items)) }
+    ensures refused { IfErr result (IsPartCause library.now set.now) }
 {
     let Ok(mut after) = library.copy() else {
         return Err(CorrectError::NoMemory);
     };
     let mut runs = Vec::new(alloc);
+    let mut anchor = None;
     for &cut in cuts {
         let part = text_at(alloc, pieces, cut)?;
-        push_part(alloc, set, &part, &mut after, &mut runs)?;
+        let next = push_part(alloc, set, &part, anchor, &mut after, &mut runs)?;
+        anchor = next;
     }
-    push_part(alloc, set, text, &mut after, &mut runs)?;
-    match is_led(alloc, library, &after, decks) {
+    push_part(alloc, set, text, anchor, &mut after, &mut runs)?;
+    match are_led(alloc, library, &after, decks, runs.is_empty()) {
         Ok(true) => Ok(runs),
         Ok(false) => unchecked(alloc),
         Err(_) => Err(CorrectError::NoMemory),
     }
 }
 
+/// Whether the decks were led to their text, by no run where they had it.
+fn are_led(
+    alloc: Global,
+    before: &Library,
+    after: &Library,
+    decks: &[EditedDeck],
+    is_none: bool,
+) -> Result<bool, Fault>
+    ensures led { IfOk result (λ ok. IsTrue ok → IsLed before.now decks.now after.now) }
+    ensures needed { IfOk result (λ ok. IsTrue ok → AllByRecursion (HasTexts (live_targets before.now) before.now) decks.now
+        → IsTrue is_none) }
+{
+    if !is_none {
+        let live = before.live_yanks()?;
+        if have_texts(alloc, before, &live, decks)? {
+            return Ok(false);
+        }
+    }
+    is_led(alloc, before, after, decks)
+}
+
 /// The error of runs that don't lead to their text.
 fn unchecked(alloc: Global) -> Result<Vec<Vec<u8>>, CorrectError>
-    ensures { OnOk result ⊥ }
+    ensures err { IsErr result }
+    ensures refused { (l : LibraryView) (set : List ℕ) → IfErr result (IsPartCause l set) }
 {
     let mut refusals = Vec::new(alloc);
     refuse(&mut refusals, 0, 0, Problem::Unchecked)?;
     Err(CorrectError::Refused(refusals))
 }
 
-/// Applies the run that leads a library to a text, and appends it; nothing where nothing changes.
+/// Applies the run that leads a library to a text, and appends it; nothing where nothing changes. Returns a card that the
+/// run has put, if there is one, or else that of the form.
 fn push_part(
     alloc: Global,
     set: &[u8],
     text: &[u8],
+    anchor: Option<CardRef>,
     library: &mut Library,
     runs: &mut Vec<Vec<u8>>,
-) -> Result<(), CorrectError>
-    ensures { (l : LibraryView) → Follows l set.now (map (λ run. run.items) runs.old.items) library.old
+) -> Result<Option<CardRef>, CorrectError>
+    ensures follows { (l : LibraryView) → Follows l set.now (map (λ run. run.items) runs.old.items) library.old
         → OnOk result (Follows l set.now (map (λ run. run.items) runs.new.items) library.new) }
+    ensures refused { (l : LibraryView) → Follows l set.now (map (λ run. run.items) runs.old.items) library.old
+        → IfErr result (IsPartCause l set.now) }
 {
-    let name = part_name(alloc, set, runs.len() + 1)?;
-    let run = correct(alloc, library, &name, text)?;
-    if run.is_empty() {
-        return Ok(());
+    let number = runs.len() + 1;
+    let name = part_name(alloc, set, number)?;
+    match part_run(alloc, library, &anchor, &name, text) {
+        Ok(run) => push_run(alloc, anchor, library, runs, run),
+        Err(error) => refused_part(alloc, number, error),
     }
+}
+
+/// The run of a part, which names a card.
+fn part_run(
+    alloc: Global,
+    library: &Library,
+    anchor: &Option<CardRef>,
+    set: &[u8],
+    text: &[u8],
+) -> Result<Vec<u8>, CorrectError>
+    ensures corrects { IfOk result (λ run. CorrectsTo library.now set.now text.now run.items) }
+    ensures refused { IfErr result (IsCause library.now set.now text.now) }
+{
+    let form = Form {
+        deletions: Deletions::Ranges,
+        anchor: *anchor,
+    };
+    correct_by(alloc, library, &form, set, text)
+}
+
+/// Applies a run that was checked, and appends it; nothing where it is empty. Returns a card that it has put, or else the
+/// given one.
+fn push_run(
+    alloc: Global,
+    anchor: Option<CardRef>,
+    library: &mut Library,
+    runs: &mut Vec<Vec<u8>>,
+    run: Vec<u8>,
+) -> Result<Option<CardRef>, CorrectError>
+    ensures follows { (l : LibraryView) (set text : List ℕ) → Follows l set (map (λ run. run.items) runs.old.items) library.old
+        → CorrectsTo library.old (part_name set (length runs.old.items + 1)) text run.items
+        → OnOk result (Follows l set (map (λ run. run.items) runs.new.items) library.new) }
+    ensures refused { (l : LibraryView) (set : List ℕ) → IfErr result (IsPartCause l set) }
+{
+    if run.is_empty() {
+        return Ok(anchor);
+    }
+    let count = library.idents().len();
     apply_run(alloc, library, &run)?;
     runs.push(run)?;
-    Ok(())
+    match new_card(library, count) {
+        Some(card) => Ok(Some(card)),
+        None => Ok(anchor),
+    }
+}
+
+/// The error of a part.
+fn refused_part(
+    alloc: Global,
+    number: usize,
+    error: CorrectError,
+) -> Result<Option<CardRef>, CorrectError>
+    ensures err { IsErr result }
+    ensures refused { (l before : LibraryView) (set text : List ℕ) (runs : List Bytes) → Follows l set runs before
+        → number ≡ length runs + 1 → IsCause before (part_name set number) text error → IfErr result (IsPartCause l set) }
+{
+    match error {
+        CorrectError::NoMemory => Err(CorrectError::NoMemory),
+        CorrectError::Refused(refusals) => {
+            Err(CorrectError::Refused(in_part(alloc, number, &refusals)?))
+        }
+    }
+}
+
+/// Refusals with the number of the part.
+fn in_part(alloc: Global, number: usize, refusals: &[Refusal]) -> Result<Vec<Refusal>, AllocError>
+    ensures { IfOk result (λ found. found.items ≡ map (in_part number) refusals.now) }
+{
+    refusals
+        .iter()
+        .map(|refusal| Refusal {
+            line: refusal.line,
+            column: refusal.column,
+            problem: part_problem(number, refusal.line, refusal.problem),
+        })
+        .collect(alloc)
+}
+
+/// A problem of the set or of the run of a part.
+fn part_problem(number: usize, line: usize, problem: Problem) -> Problem
+    ensures { result ≡ part_problem number line problem }
+{
+    match problem {
+        Problem::NameTaken if line == 0 => Problem::PartTaken(number),
+        Problem::BadName if line == 0 => Problem::PartName(number),
+        Problem::Full => Problem::PartFull(number),
+        _ => problem,
+    }
+}
+
+/// A card of an ident that is younger than a number of idents.
+fn new_card(library: &Library, count: usize) -> Option<CardRef> {
+    for deck in library.decks() {
+        if let Some(card) = deck.cards.iter().find(|card| card.ident as usize > count) {
+            return Some(card_ref(library.idents(), card));
+        }
+    }
+    None
 }
 
 /// Applies a run that was checked: only memory can run out.
-fn apply_run(alloc: Global, library: &mut Library, run: &[u8]) -> Result<(), CorrectError>
+fn apply_run(alloc: Global, library: &mut Library, run: &[u8]) -> Result<(), AllocError>
     ensures { OnOk result (IsReached run.now library.old library.new) }
 {
     let Ok(lines) = read_run(alloc, run) else {
-        return Err(CorrectError::NoMemory);
+        return Err(AllocError);
     };
     match apply(alloc, library, &lines) {
         Ok(_) => Ok(()),
-        Err(_) => Err(CorrectError::NoMemory),
+        Err(_) => Err(AllocError),
     }
 }
 

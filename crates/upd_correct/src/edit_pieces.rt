@@ -1,9 +1,7 @@
 //! An edit as a list of lines, which can be cut anywhere: up to a cut the edit is done, and after it not yet.
 //!
-//! Nothing is proved of it: each text at a cut is only one on the way, and is led to by a run that is checked.
-
-ghost use Rattle.std.specs.Prelude.{◌≡◌};
-ghost use Rattle.upd_core.specs.Status.{live_of};
+//! The lines that stand for a range that goes are put by share with the cards of the range, so that at no cut both are
+//! missing. Nothing is proved of it: each text at a cut is only one on the way, and is led to by a run that is checked.
 
 use crate::edited_deck::EditedDeck;
 use crate::plan::{Correction, added_decks, corrections_for};
@@ -65,9 +63,7 @@ pub(crate) fn pieces_of<'a>(
     library: &'a Library,
     live: &Live,
     decks: &[EditedDeck<'a>],
-) -> Result<Vec<Piece<'a>>, AllocError>
-    requires { live.now ≡ live_of library.now }
-{
+) -> Result<Vec<Piece<'a>>, AllocError> {
     let mut pieces = Vec::new(alloc);
     push_added(&mut pieces, &added_decks(alloc, library, decks)?)?;
     for correction in &corrections_for(alloc, library, live, decks)? {
@@ -107,27 +103,56 @@ fn push_segment<'a>(
     deck: Serial,
     segment: &Segment<'a>,
 ) -> Result<(), AllocError> {
-    for (i, card) in segment.front.iter().enumerate() {
-        push_card(pieces, live, deck, segment.goes, i == 0, card)?;
+    if segment.goes {
+        return push_change(pieces, segment);
     }
-    let begins = segment.front.is_empty();
-    push_card(pieces, live, deck, segment.goes, begins, segment.last)?;
-    push_lines(pieces, !segment.goes, &segment.lines)
+    for card in &segment.front {
+        push_kept(pieces, live, deck, card)?;
+    }
+    push_kept(pieces, live, deck, segment.last)?;
+    push_lines(pieces, true, &segment.lines)
 }
 
-/// Appends the line of a card, if it is active.
-fn push_card<'a>(
+/// Appends the cards of a segment that goes and the lines that stand for it, by share: the first i of the cards come
+/// before line j where i is to the cards as j is to the lines.
+fn push_change<'a>(pieces: &mut Vec<Piece<'a>>, segment: &Segment<'a>) -> Result<(), AllocError> {
+    let count = segment.front.len().saturating_add(1);
+    let mut next = 0;
+    for i in 0..count {
+        let card = match segment.front.get(i) {
+            Some(card) => *card,
+            None => segment.last,
+        };
+        pieces.push(Piece {
+            step: Step::Delete,
+            begins: i == 0,
+            text: &card.text,
+        })?;
+        let end = segment.lines.len().saturating_mul(i.saturating_add(1)) / count;
+        push_lines(pieces, false, lines_between(&segment.lines, next, end))?;
+        next = end;
+    }
+    Ok(())
+}
+
+/// The lines from one index to another.
+fn lines_between<'b, 'a>(lines: &'b [&'a [u8]], first: usize, end: usize) -> &'b [&'a [u8]] {
+    let (before, _) = lines.split_at(end.min(lines.len()));
+    let (_, between) = before.split_at(first.min(before.len()));
+    between
+}
+
+/// Appends the line of a card that stays, if it is active.
+fn push_kept<'a>(
     pieces: &mut Vec<Piece<'a>>,
     live: &Live,
     deck: Serial,
-    goes: bool,
-    begins: bool,
     card: &'a Card,
 ) -> Result<(), AllocError> {
     if live.is_active(deck, card) {
         pieces.push(Piece {
-            step: if goes { Step::Delete } else { Step::Keep },
-            begins: goes && begins,
+            step: Step::Keep,
+            begins: false,
             text: &card.text,
         })?;
     }
@@ -151,7 +176,8 @@ fn push_lines<'a>(
 }
 
 /// Where an edit is cut, by the number of lines before each cut: what is between two cuts takes at most a run's lines and
-/// bytes, divided by `share`. A run begins with its `*IDENT`, and with a directive for what it continues.
+/// bytes, divided by `share`. A run begins with its `*IDENT`, and with a directive for what it continues. One that is not
+/// the first names a card of the one before it.
 pub(crate) fn cuts_of(
     alloc: Global,
     pieces: &[Piece],
@@ -166,8 +192,8 @@ pub(crate) fn cuts_of(
             || bytes.saturating_mul(share) > MAX_RUN_BYTES
         {
             cuts.push(i)?;
-            lines = piece.lines().saturating_add(2);
-            bytes = piece.bytes().saturating_add(2 * MAX_DIRECTIVE_BYTES);
+            lines = piece.lines().saturating_add(3);
+            bytes = piece.bytes().saturating_add(3 * MAX_DIRECTIVE_BYTES);
         }
     }
     Ok(cuts)

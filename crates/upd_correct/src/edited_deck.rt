@@ -30,7 +30,7 @@ pub(crate) struct EditedDeck<'a> {
 
 impl<'a> Model for EditedDeck<'a> {
     ghost use Rattle.std.specs.Prelude.{map};
-    ghost use Rattle.upd_correct.specs.Corrections.{NewDeck};
+    ghost use Rattle.upd_correct.specs.EditedText.{NewDeck};
     ghost use Rattle.upd_correct.specs.EditedText.{card_line};
 
     ghost Value = { NewDeck };

@@ -18,6 +18,7 @@ mod edit_paths;
 mod edit_pieces;
 mod edited_deck;
 mod edited_lines;
+pub mod in_the_way;
 mod listed_card;
 pub mod listed_deck;
 pub mod listed_laws;
@@ -30,7 +31,7 @@ pub mod refusal;
 mod script;
 mod writer;
 
-pub use correcting::correct;
+pub use correcting::{correct, correct_since};
 pub use edit_parts::correct_parts;
 pub use listed_deck::{ListedError, correct_listed};
 pub use refusal::{CorrectError, Problem, Refusal};

@@ -6,11 +6,12 @@ ghost use Rattle.upd_correct.specs.ListedRuns.{IsListedCause, IsListedRun};
 ghost use Rattle.upd_correct.specs.declared.listed_deck.ListedError.TheVariants.{NoMemory};
 ghost use Rattle.upd_correct.specs.ListedDeck.{aged_card, bad_line, card_listed, cards_listed, library_listed, library_of, name_listed, with_idents};
 
-use crate::correcting::correct;
+use crate::correcting::correct_by;
 use crate::edited_lines::cut_text;
 use crate::listed_card::{ListedCard, bad_card, listed_cards, listed_name};
 use crate::other_deck::first_other;
 use crate::refusal::{CorrectError, Refusal};
+use crate::writer::{Deletions, Form};
 use std::alloc::{AllocError, AllocFailed, Global};
 use upd_core::{Card, Deck, Entry, Kind, Library, Name, Serial};
 
@@ -46,7 +47,8 @@ impl<T: Drop> From<AllocFailed<T>> for ListedError {
 /// The run that leads a deck to its edited text under the name of a new set, made from the listing of the deck alone.
 /// Where nothing changes, the run is empty.
 ///
-/// The run is checked in the library that the listing stands for. A listing doesn't tell which other names are held, nor
+/// The run is checked in the library that the listing stands for. Each card that goes has a `*DELETE` of its own, unless
+/// the run would be too long by it: so it takes no line that another has put in since. A listing doesn't tell which other names are held, nor
 /// how much room the library has. So a run may still be refused when it arrives, for the name of its set or for a limit.
 pub fn correct_listed(
     alloc: Global,
@@ -66,7 +68,8 @@ pub fn correct_listed(
         return Err(ListedError::OtherDeck(index.saturating_add(1)));
     }
     let library = library_of(alloc, name, &lines)?;
-    match correct(alloc, &library, set, text) {
+    let form = Form::of(Deletions::Cards);
+    match correct_by(alloc, &library, &form, set, text) {
         Ok(run) => Ok(run),
         Err(CorrectError::NoMemory) => Err(ListedError::NoMemory),
         Err(CorrectError::Refused(refusals)) => Err(ListedError::Refused(refusals)),

@@ -3,7 +3,7 @@
 ghost use Rattle.std.specs.Prelude.{◌≡◌, IfOk};
 ghost use Rattle.upd_core.specs.First.{index_from};
 ghost use Rattle.upd_correct.specs.EditedText.{lines_in};
-ghost use Rattle.upd_correct.specs.Runs.{begins_other};
+ghost use Rattle.upd_correct.specs.ListedRuns.{begins_other};
 
 use crate::edited_lines::cut_text;
 use crate::read_line::{LineRead, read_line};

@@ -1,24 +1,18 @@
 //! Plans: the corrections of held decks, and the new decks.
 
-ghost use Rattle.std.specs.Prelude.{◌≡◌, ◌∷◌, ◌++◌, [], ℕ, IsTrue, List, Some, None, IfOk, OnOk, map};
-ghost use Rattle.std.specs.List.{AllByRecursion, flat_map, list_any};
+ghost use Rattle.std.specs.Prelude.{◌≡◌, ◌++◌, IfOk, OnOk, map};
+ghost use Rattle.std.specs.List.{list_any};
 ghost use Rattle.std.specs.Str.{bytes_eq};
-ghost use Rattle.upd_core.specs.Library.{cards_of};
-ghost use Rattle.upd_core.specs.Status.{is_active, live_of};
-ghost use Rattle.upd_correct.specs.Corrections.{NewDeck, new_deck_lines};
-ghost use Rattle.upd_correct.specs.RunLines.{IsSpelled};
-ghost use Rattle.upd_correct.specs.EditedText.{card_line, texts_of};
-ghost use Rattle.upd_correct.specs.Plans.{AreCorrectionsFor, new_decks};
-ghost use Rattle.upd_correct.specs.Scripts.{IsScriptOf};
-ghost use Rattle.upd_correct.specs.Problems.{HasNoProblem, deck_problem, first_problem, name_problem, set_problem};
+ghost use Rattle.upd_core.specs.Status.{live_of};
+ghost use Rattle.upd_correct.specs.Checked.{new_decks};
+ghost use Rattle.upd_correct.specs.Problems.{deck_problem, first_problem, name_problem, set_problem};
 ghost use Rattle.upd_correct.specs.Refusals.{refusals_at};
 
 use crate::edited_deck::{EditedDeck, refuse};
 use crate::matching::matches_of;
 use crate::refusal::{Problem, Refusal};
-use crate::script::{Segment, script_of};
+use crate::script::{Segment, segments_for};
 use std::alloc::{AllocError, Global};
-use std::marker::Model;
 use upd_core::{Card, Library, Live, Serial};
 use upd_text::Name;
 
@@ -29,12 +23,11 @@ pub(crate) struct Correction<'a> {
     pub(crate) segments: Vec<Segment<'a>>,
 }
 
-impl<'a> Model for Correction<'a> {
-    ghost use Rattle.upd_correct.specs.Corrections.{Correction as CorrectionView};
-
-    ghost Value = { CorrectionView };
-
-    ghost view = { λ c. record { deck = c.deck; segments = c.segments.items } };
+impl<'a> Correction<'a> {
+    /// Whether it changes the deck.
+    pub(crate) fn is_change(&self) -> bool {
+        self.segments.iter().any(|segment| segment.is_change())
+    }
 }
 
 /// What is wrong with the name of a set.
@@ -144,20 +137,12 @@ pub(crate) fn corrections_for<'a>(
     library: &'a Library,
     live: &Live,
     decks: &[EditedDeck<'a>],
-) -> Result<Vec<Correction<'a>>, AllocError>
-    requires { live.now ≡ live_of library.now }
-    ensures { (set : List ℕ) → HasNoProblem library.now set [] decks.now
-        → AllByRecursion IsSpelled (flat_map new_deck_lines decks.now)
-        → IfOk result (λ corrections. AreCorrectionsFor library.now decks.now corrections.items) }
-{
+) -> Result<Vec<Correction<'a>>, AllocError> {
     let mut corrections = Vec::new(alloc);
     for deck in decks {
-        match library.deck_of(&deck.name) {
-            Some(age) => {
-                let cards = library.cards_of(age);
-                corrections.push(correction_of(alloc, live, age, cards, deck)?)?;
-            }
-            None => {}
+        if let Some(age) = library.deck_of(&deck.name) {
+            let cards = library.cards_of(age);
+            corrections.push(correction_of(alloc, live, age, cards, deck)?)?;
         }
     }
     Ok(corrections)
@@ -170,40 +155,18 @@ fn correction_of<'a>(
     age: Serial,
     cards: &'a [Card],
     deck: &EditedDeck<'a>,
-) -> Result<Correction<'a>, AllocError>
-    ensures deck { IfOk result (λ c. c.deck ≡ age) }
-    ensures script { first_problem live.now.targets age deck.now.first cards.now ≡ None
-        → AllByRecursion IsSpelled deck.now.lines
-        → IfOk result (λ c. IsScriptOf live.now.targets age cards.now (texts_of deck.now) c.segments) }
-{
+) -> Result<Correction<'a>, AllocError> {
     let segments = match cards {
         [] => Vec::new(alloc),
-        [first, rest @ ..] => segments_of(alloc, live, age, first, rest, &deck.lines)?,
+        [first, rest @ ..] => {
+            let matches = matches_of(alloc, live, age, rest, &deck.lines)?;
+            segments_for(alloc, live, age, first, rest, &matches, &deck.lines)?
+        }
     };
     Ok(Correction {
         deck: age,
         segments,
     })
-}
-
-/// The segments that lead the cards of a deck to the texts of its first card and of these lines.
-fn segments_of<'a>(
-    alloc: Global,
-    live: &Live,
-    age: Serial,
-    first: &'a Card,
-    rest: &'a [Card],
-    lines: &[&'a [u8]],
-) -> Result<Vec<Segment<'a>>, AllocError>
-    ensures { IsTrue (is_active live.now.targets age first.now)
-        → AllByRecursion IsSpelled (map (λ t. card_line t.now) lines.now)
-        → IfOk result (λ segments. IsScriptOf live.now.targets age (first.now ∷ rest.now)
-        (first.now.text ∷ map (λ t. t.now) lines.now) segments.items) }
-{
-    let matches = matches_of(alloc, live, age, rest, lines)?;
-    let script = script_of(alloc, live, age, first, rest, &matches, lines)?;
-    let segments = script.finish()?;
-    Ok(segments)
 }
 
 /// The decks of a text that are new.

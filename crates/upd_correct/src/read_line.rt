@@ -78,15 +78,13 @@ fn refused_line<'a>(bytes: &[u8], fault: Fault) -> Result<LineRead<'a>, AllocErr
 fn wrong<'a>(bytes: &[u8], problem: Problem) -> LineRead<'a>
     ensures { result ≡ LineRead.Wrong (problem_column bytes.now problem) problem }
 {
-    LineRead::Wrong {
-        column: column_of(bytes, problem),
-        problem,
-    }
+    let column = column_of(bytes, &problem);
+    LineRead::Wrong { column, problem }
 }
 
 /// The column of a problem of a line.
-fn column_of(bytes: &[u8], problem: Problem) -> usize
-    ensures { result ≡ problem_column bytes.now problem }
+fn column_of(bytes: &[u8], problem: &Problem) -> usize
+    ensures { result ≡ problem_column bytes.now problem.now }
 {
     match problem {
         Problem::BadByte => bad_column(bytes),

@@ -4,6 +4,8 @@ ghost use Rattle.std.specs.Prelude.{◌≡◌};
 ghost use Rattle.upd_correct.specs.declared.refusal.CorrectError.TheVariants.{NoMemory};
 
 use std::alloc::{AllocError, AllocFailed};
+use upd_core::CardRef;
+use upd_text::Name;
 
 /// Why a line of an edited text, or the text as a whole, is refused.
 #[derive(Clone, Copy, Debug, PartialEq, Eq)]
@@ -39,6 +41,18 @@ pub enum Problem {
     /// The run that was made isn't accepted, doesn't lead to the text or changes something else. That is a fault of this
     /// program, or of the listing that the library stands for.
     Unchecked,
+    /// The sets of parts have no name.
+    NoSet,
+    /// The name of the sets of parts leaves no room for a number.
+    SetLong,
+    /// The set of a part, by its number, has a name that is held.
+    PartTaken(usize),
+    /// The set of a part has a name that isn't one.
+    PartName(usize),
+    /// The run of a part would exceed a limit of the library.
+    PartFull(usize),
+    /// The run that was made would change a deck that a later set took out of use.
+    Conflict { card: CardRef, set: Name },
 }
 
 /// A problem and where it is.

@@ -1,189 +1,41 @@
 //! Writing runs.
-
-ghost use Rattle.std.specs.Prelude.{◌≡◌, ◌∷◌, [], ◌++◌, length, map, IfOk, OnOk};
-ghost use Rattle.std.specs.List.{flat_map};
-ghost use Rattle.upd_text.specs.Names.{card_text};
-ghost use Rattle.upd_core.specs.Counts.{capped};
-ghost use Rattle.upd_core.specs.Library.{ref_of};
-ghost use Rattle.upd_correct.specs.Corrections.{deck_lines, deletion, edit_lines, insertion, new_deck_lines};
-ghost use Rattle.upd_correct.specs.Corrections.{segment_lines};
-ghost use Rattle.upd_correct.specs.RunLines.{RunLine, insert_line, run_of};
-ghost use Rattle.upd_correct.specs.EditedText.{card_line};
-ghost use Rattle.upd_correct.specs.Writing.{Writes};
+//!
+//! A run is checked before it is returned, so nothing is proved here.
 
 use crate::edited_deck::EditedDeck;
 use crate::plan::Correction;
 use crate::script::Segment;
 use itoa::Buffer;
 use std::alloc::{AllocError, Global};
-use std::marker::Model;
 use upd_compile::text_parts::push_parts;
 use upd_core::card::card_ref;
 use upd_core::{Card, CardRef, Ident};
 
-/// A run so far.
+/// How cards that go are named.
+#[derive(Clone, Copy, PartialEq, Eq)]
+pub(crate) enum Deletions {
+    /// Each alone. So a run takes no card that another has put between them.
+    Cards,
+    /// Neighbours by a range.
+    Ranges,
+}
+
+/// How a run is written.
 #[derive(Drop)]
-pub(crate) struct RunText {
-    pub(crate) bytes: Vec<u8>,
-    /// The number of its lines; it stays at the greatest value.
-    pub(crate) lines: usize,
+pub(crate) struct Form {
+    pub(crate) deletions: Deletions,
+    /// A card of a run before it. A run that names none of the same ident begins with an `*INSERT` of the card, so that it
+    /// is refused where the one before it was.
+    pub(crate) anchor: Option<CardRef>,
 }
 
-impl Model for RunText {
-    ghost use Rattle.upd_correct.specs.Writing.{RunView};
-
-    ghost Value = { RunView };
-
-    ghost view = { λ r. record { bytes = r.bytes.items; lines = r.lines } };
-}
-
-impl RunText {
-    /// Appends the parts of a line, and LF.
-    fn push_line(&mut self, parts: &[&[u8]]) -> Result<(), AllocError>
-        ensures { (line : RunLine) → line.text ≡ flat_map (λ part. part.now) parts.now
-            → OnOk result (Writes self.old self.new (line ∷ [])) }
-    {
-        push_parts(&mut self.bytes, parts)?;
-        self.bytes.push(b'\n')?;
-        self.lines = self.lines.saturating_add(1);
-        Ok(())
-    }
-
-    /// Appends lines that become cards.
-    fn push_cards(&mut self, lines: &[&[u8]]) -> Result<(), AllocError>
-        ensures { OnOk result (Writes self.old self.new (map (λ t. card_line t.now) lines.now)) }
-    {
-        for line in lines {
-            self.push_line(&[line])?;
+impl Form {
+    /// The form without a run before it.
+    pub(crate) fn of(deletions: Deletions) -> Form {
+        Form {
+            deletions,
+            anchor: None,
         }
-        Ok(())
-    }
-
-    /// Appends the `*DELETE` of neighbouring cards.
-    fn push_deletion(
-        &mut self,
-        idents: &[Ident],
-        front: &[&Card],
-        last: &Card,
-    ) -> Result<(), AllocError>
-        ensures { OnOk result (Writes self.old self.new
-            (deletion idents.now (map (λ c. c.now) front.now) last.now ∷ [])) }
-    {
-        let alloc = *self.bytes.allocator();
-        let to = reference(alloc, card_ref(idents, last))?;
-        match front {
-            [] => self.push_line(&[b"*DELETE ", &to]),
-            [first, ..] => {
-                let from = reference(alloc, card_ref(idents, first))?;
-                self.push_line(&[b"*DELETE ", &from, b",", &to])
-            }
-        }
-    }
-
-    /// Appends the `*INSERT` of lines after a card; nothing for no lines.
-    fn push_insertion(
-        &mut self,
-        idents: &[Ident],
-        card: &Card,
-        lines: &[&[u8]],
-    ) -> Result<(), AllocError>
-        ensures { OnOk result (Writes self.old self.new
-            (insertion idents.now card.now (map (λ t. card_line t.now) lines.now))) }
-    {
-        if lines.is_empty() {
-            return Ok(());
-        }
-        self.push_insert(idents, card)?;
-        self.push_cards(lines)?;
-        Ok(())
-    }
-
-    /// Appends an `*INSERT`.
-    fn push_insert(&mut self, idents: &[Ident], card: &Card) -> Result<(), AllocError>
-        ensures { OnOk result (Writes self.old self.new (insert_line (ref_of idents.now card.now) ∷ [])) }
-    {
-        let alloc = *self.bytes.allocator();
-        let after = reference(alloc, card_ref(idents, card))?;
-        self.push_line(&[b"*INSERT ", &after])?;
-        Ok(())
-    }
-
-    /// Appends the lines for a segment.
-    fn push_segment(&mut self, idents: &[Ident], segment: &Segment) -> Result<(), AllocError>
-        ensures { OnOk result (Writes self.old self.new (segment_lines idents.now segment.now)) }
-    {
-        if segment.goes {
-            self.push_deletion(idents, &segment.front, segment.last)?;
-            self.push_cards(&segment.lines)?;
-        } else {
-            self.push_insertion(idents, segment.last, &segment.lines)?;
-        }
-        Ok(())
-    }
-
-    /// Appends the lines for a deck.
-    fn push_correction(
-        &mut self,
-        idents: &[Ident],
-        correction: &Correction,
-    ) -> Result<(), AllocError>
-        ensures { OnOk result (Writes self.old self.new (deck_lines idents.now correction.now)) }
-    {
-        for segment in &correction.segments {
-            self.push_segment(idents, segment)?;
-        }
-        Ok(())
-    }
-
-    /// Appends the lines for decks.
-    fn push_corrections(
-        &mut self,
-        idents: &[Ident],
-        corrections: &[Correction],
-    ) -> Result<(), AllocError>
-        ensures { OnOk result (Writes self.old self.new (flat_map (deck_lines idents.now) corrections.now)) }
-    {
-        for correction in corrections {
-            self.push_correction(idents, correction)?;
-        }
-        Ok(())
-    }
-
-    /// Appends the lines of a new deck.
-    fn push_deck(&mut self, deck: &EditedDeck) -> Result<(), AllocError>
-        ensures { OnOk result (Writes self.old self.new (new_deck_lines deck.now)) }
-    {
-        self.push_line(&[deck.first])?;
-        self.push_cards(&deck.lines)?;
-        Ok(())
-    }
-
-    /// Appends the lines of new decks.
-    fn push_decks(&mut self, decks: &[&EditedDeck]) -> Result<(), AllocError>
-        ensures { OnOk result (Writes self.old self.new
-            (flat_map new_deck_lines (map (λ d. d.now) decks.now))) }
-    {
-        for deck in decks {
-            self.push_deck(deck)?;
-        }
-        Ok(())
-    }
-
-    /// Appends the lines of an edit.
-    fn push_edit(
-        &mut self,
-        idents: &[Ident],
-        set: &[u8],
-        corrections: &[Correction],
-        added: &[&EditedDeck],
-    ) -> Result<(), AllocError>
-        ensures { OnOk result (Writes self.old self.new (edit_lines idents.now
-            (record { set = set.now; corrections = corrections.now; added = map (λ d. d.now) added.now }))) }
-    {
-        self.push_line(&[b"*IDENT ", set])?;
-        self.push_corrections(idents, corrections)?;
-        self.push_decks(added)?;
-        Ok(())
     }
 }
 
@@ -191,29 +43,122 @@ impl RunText {
 pub(crate) fn write_run(
     alloc: Global,
     idents: &[Ident],
+    form: &Form,
     set: &[u8],
     corrections: &[Correction],
     added: &[&EditedDeck],
-) -> Result<RunText, AllocError>
-    ensures bytes { IfOk result (λ run. run.bytes ≡ run_of (edit_lines idents.now
-        (record { set = set.now; corrections = corrections.now; added = map (λ d. d.now) added.now }))) }
-    ensures lines { IfOk result (λ run. capped run.lines ≡ capped (length (edit_lines idents.now
-        (record { set = set.now; corrections = corrections.now; added = map (λ d. d.now) added.now })))) }
-{
-    let mut run = RunText {
-        bytes: Vec::new(alloc),
-        lines: 0,
-    };
-    run.push_edit(idents, set, corrections, added)?;
+) -> Result<Vec<u8>, AllocError> {
+    let edits = edits_of(alloc, idents, form.deletions, corrections, added)?;
+    let mut run = Vec::new(alloc);
+    push_parts(&mut run, &[b"*IDENT ", set, b"\n"])?;
+    if let Some(card) = form.anchor
+        && !is_named(&edits, card.name.as_bytes())
+    {
+        push_parts(&mut run, &[b"*INSERT "])?;
+        push_reference(&mut run, card)?;
+        push_parts(&mut run, &[b"\n"])?;
+    }
+    push_parts(&mut run, &[&edits])?;
     Ok(run)
 }
 
-/// A card reference as it is written.
-fn reference(alloc: Global, card: CardRef) -> Result<Vec<u8>, AllocError>
-    ensures { IfOk result (λ text. text.items ≡ card_text card) }
-{
-    let mut text = Vec::new(alloc);
-    push_parts(&mut text, &[card.name.as_bytes(), b"."])?;
-    text.extend_from_slice(Buffer::new().format(card.number).as_bytes())?;
-    Ok(text)
+/// Whether a directive of a run names a card of an ident.
+fn is_named(run: &[u8], ident: &[u8]) -> bool {
+    run.split(|&byte| byte == b'\n').any(|line| is_first(line, b"*INSERT ", ident)
+        || is_first(line, b"*DELETE ", ident))
+}
+
+/// Whether a line begins with a word and then the name of a card of an ident.
+fn is_first(line: &[u8], word: &[u8], ident: &[u8]) -> bool {
+    let Some(field) = line.strip_prefix(word) else {
+        return false;
+    };
+    match field.strip_prefix(ident) {
+        Some([b'.', ..]) => true,
+        _ => false,
+    }
+}
+
+/// The lines of a run behind its `*IDENT`.
+fn edits_of(
+    alloc: Global,
+    idents: &[Ident],
+    deletions: Deletions,
+    corrections: &[Correction],
+    added: &[&EditedDeck],
+) -> Result<Vec<u8>, AllocError> {
+    let mut run = Vec::new(alloc);
+    for correction in corrections {
+        for segment in &correction.segments {
+            push_segment(&mut run, idents, deletions, segment)?;
+        }
+    }
+    for deck in added {
+        push_parts(&mut run, &[deck.first, b"\n"])?;
+        push_lines(&mut run, &deck.lines)?;
+    }
+    Ok(run)
+}
+
+/// Appends the lines for a segment.
+fn push_segment(
+    run: &mut Vec<u8>,
+    idents: &[Ident],
+    deletions: Deletions,
+    segment: &Segment,
+) -> Result<(), AllocError> {
+    if segment.goes {
+        push_deletion(run, idents, deletions, segment)?;
+    } else if !segment.lines.is_empty() {
+        push_directive(run, b"*INSERT ", idents, segment.last)?;
+    }
+    push_lines(run, &segment.lines)
+}
+
+/// Appends the `*DELETE` of neighbouring cards, or one for each.
+fn push_deletion(
+    run: &mut Vec<u8>,
+    idents: &[Ident],
+    deletions: Deletions,
+    segment: &Segment,
+) -> Result<(), AllocError> {
+    if deletions == Deletions::Ranges
+        && let Some(first) = segment.front.first()
+    {
+        push_parts(run, &[b"*DELETE "])?;
+        push_reference(run, card_ref(idents, first))?;
+        push_parts(run, &[b","])?;
+        push_reference(run, card_ref(idents, segment.last))?;
+        return push_parts(run, &[b"\n"]);
+    }
+    for card in &segment.front {
+        push_directive(run, b"*DELETE ", idents, card)?;
+    }
+    push_directive(run, b"*DELETE ", idents, segment.last)
+}
+
+/// Appends a directive that names a card.
+fn push_directive(
+    run: &mut Vec<u8>,
+    word: &[u8],
+    idents: &[Ident],
+    card: &Card,
+) -> Result<(), AllocError> {
+    push_parts(run, &[word])?;
+    push_reference(run, card_ref(idents, card))?;
+    push_parts(run, &[b"\n"])
+}
+
+/// Appends lines that become cards.
+fn push_lines(run: &mut Vec<u8>, lines: &[&[u8]]) -> Result<(), AllocError> {
+    for line in lines {
+        push_parts(run, &[line, b"\n"])?;
+    }
+    Ok(())
+}
+
+/// Appends a card reference.
+fn push_reference(run: &mut Vec<u8>, card: CardRef) -> Result<(), AllocError> {
+    push_parts(run, &[card.name.as_bytes(), b"."])?;
+    run.extend_from_slice(Buffer::new().format(card.number).as_bytes())
 }

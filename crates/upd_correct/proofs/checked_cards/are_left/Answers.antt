@@ -6,4 +6,5 @@ pub returns : goal.returns
 returns c is =
     let none : length c.loop-card.rest.now ≡ 0 = search rules in
     c.loop-card.invariant
-    (none_left c.args.live.now.targets c.args.deck c.args.set c.loop-card.rest.now c.args.news.now c.loop-card.card-index none (omega arith))
+    (none_left c.args.taken.now.targets c.args.live.now.targets c.args.deck c.args.set c.args.last c.loop-card.rest.now
+    c.args.news.now c.loop-card.card-index none (omega arith))

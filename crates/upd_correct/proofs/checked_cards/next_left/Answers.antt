@@ -13,7 +13,7 @@ returns-then-is_active c news left =
 pub returns-then-is_left : goal.returns-then-is_left
 returns-then-is_left c news left =
     let other : c.args.new.now.ident ≡ c.args.set → ⊥ = search rules in
-    let is : IsLeft c.args.live.now.targets c.args.deck c.args.set c.old-item.result c.args.new.now = search rules in
-    subst (λ (olds : List CardView). AreLeft c.args.live.now.targets c.args.deck c.args.set olds (c.args.new.now ∷ news))
+    let is : IsLeft c.args.taken.now.targets c.args.live.now.targets c.args.deck c.args.set c.args.last c.old-item.result c.args.new.now = search rules in
+    subst (λ (olds : List CardView). AreLeft c.args.taken.now.targets c.args.live.now.targets c.args.deck c.args.set c.args.last olds (c.args.new.now ∷ news))
     (sym (split_first c.args.olds.now c.old-item.result (omega arith) c.old-item.is))
     (Old c.old-item.result c.args.new.now (take (length c.args.olds.now - 1) (drop 1 c.args.olds.now)) news other is left)

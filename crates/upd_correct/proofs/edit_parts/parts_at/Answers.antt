@@ -6,3 +6,6 @@ pub loop-cut-init : goal.loop-cut-init
 loop-cut-init c =
     subst (λ runs. Follows c.args.library.now c.args.set.now (map (λ run. run.items) runs) c.in-Ok.after) (sym c.new-runs.ensures.items)
     (subst (λ after. Follows c.args.library.now c.args.set.now [] after) (sym c.in-Ok.ensures.ok) Before)
+
+pub returns-in-Ok-false-clause-refused : goal.returns-in-Ok-false-clause-refused
+returns-in-Ok-false-clause-refused c = c.unchecked.ensures.refused c.args.library.now c.args.set.now

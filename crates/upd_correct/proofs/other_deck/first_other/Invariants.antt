@@ -1,5 +1,5 @@
 use Rattle.upd_correct.proofs.Common.{◌≡◌, drop, map, index_from, lines_in}
-use Rattle.upd_correct.specs.Runs.{begins_other}
+use Rattle.upd_correct.specs.ListedRuns.{begins_other}
 use Rattle.upd_correct.proofs.other_deck.first_other.Given as goal
 
 abbrev pub invariant-loop-i : goal.invariant-loop-i

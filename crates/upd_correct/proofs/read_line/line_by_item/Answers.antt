@@ -1,8 +1,8 @@
-use Rattle.upd_correct.proofs.Common.{◌≡◌, [], ◌∷◌, sym, subst, LineView, reading, IsCardItem}
+use Rattle.upd_correct.proofs.Common.{◌≡◌, [], ◌∷◌, sym, subst, LineView, reading}
 use Rattle.std.proofs.Common.{Ok}
 use Rattle.upd_deck.specs.declared.item.Item.{Item}
 use Rattle.upd_deck.specs.LineFields.{seen}
-use Rattle.upd_correct.proofs.TextLineLemmas.{card_reading, read_card}
+use Rattle.upd_correct.proofs.TextLineLemmas.{IsCardItem, card_reading, read_card}
 use Rattle.upd_correct.proofs.read_line.line_by_item.Goals as goal
 
 pub returns-in-Text : goal.returns-in-Text
