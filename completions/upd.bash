@@ -1,12 +1,12 @@
 # bash completion of upd, and of its scripts upd-bring, upd-tree, upd-edit and upd-put
 _upd() {
     local word=${COMP_WORDS[COMP_CWORD]} command=${COMP_WORDS[1]} words=
-    local commands="trial init run settle spool serve serve-local compile list history blame show idents yanks page text text-at correct correct-at correct-parts try try-at source runs sites backup examine replay migrate explain help"
+    local commands="trial init run settle spool serve serve-local compile list history blame show idents yanks page text text-at correct correct-at correct-parts try try-at run-at source runs sites backup examine replay migrate explain help"
     COMPREPLY=()
     case $COMP_CWORD,$command in
         1,*) words="$commands --help --version" ;;
         2,help) words=$commands ;;
-        2,trial | 5,run | 6,correct-parts | 3,try | 3,try-at) words="full quick normal --help" ;;
+        2,trial | 5,run | 5,run-at | 6,correct-parts | 3,try | 3,try-at) words="full quick normal --help" ;;
         2,explain) words="RunLong TooManyLines BadByte LineLong BadName BadCard BadField NoIdent TextNowhere NameTaken IdentUnknown DeckUnknown CardUnknown RangeOrder DeckCard YankText YankSelf Reserved Full CallUnknown CallDepth CompileLong BadSite BadNumber BadMode RunChanged Settled NoMemory Store BadFrame CutFrame Read Write --help" ;;
         2,*) compopt -o filenames 2> /dev/null; mapfile -t COMPREPLY < <(compgen -f -- "$word"; compgen -W --help -- "$word"); return ;;
     esac

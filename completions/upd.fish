@@ -1,5 +1,5 @@
 # fish completion of upd and of its scripts, to be installed as /etc/fish/completions/upd.fish, with links for the scripts
-set -l commands trial init run settle spool serve serve-local compile list history blame show idents yanks page text text-at correct correct-at correct-parts try try-at source runs sites backup examine replay migrate explain help
+set -l commands trial init run settle spool serve serve-local compile list history blame show idents yanks page text text-at correct correct-at correct-parts try try-at run-at source runs sites backup examine replay migrate explain help
 complete -c upd -f
 complete -c upd -n "not __fish_seen_subcommand_from $commands" -a trial -d 'apply a run to an empty library'
 complete -c upd -n "not __fish_seen_subcommand_from $commands" -a init -d 'make an empty library in a file'
@@ -22,7 +22,8 @@ complete -c upd -n "not __fish_seen_subcommand_from $commands" -a correct -d 'wr
 complete -c upd -n "not __fish_seen_subcommand_from $commands" -a correct-at -d 'write the run for an edited text as of an ident'
 complete -c upd -n "not __fish_seen_subcommand_from $commands" -a correct-parts -d 'write the spool of runs that correct decks to an edited text'
 complete -c upd -n "not __fish_seen_subcommand_from $commands" -a try -d 'write the reply that a run would get'
-complete -c upd -n "not __fish_seen_subcommand_from $commands" -a try-at -d 'do the same, and warn of cards that came after an ident'
+complete -c upd -n "not __fish_seen_subcommand_from $commands" -a try-at -d 'do the same, and warn of what others have done since an ident'
+complete -c upd -n "not __fish_seen_subcommand_from $commands" -a run-at -d 'do the same, unless the run meets what others have done since an ident'
 complete -c upd -n "not __fish_seen_subcommand_from $commands" -a source -d 'write the compile file of one deck'
 complete -c upd -n "not __fish_seen_subcommand_from $commands" -a runs -d 'list the stored runs'
 complete -c upd -n "not __fish_seen_subcommand_from $commands" -a sites -d 'list the sites with their next numbers'
@@ -34,12 +35,12 @@ complete -c upd -n "not __fish_seen_subcommand_from $commands" -a explain -d 'ex
 complete -c upd -n "not __fish_seen_subcommand_from $commands" -a help -d 'show the words of a command'
 set -l words '(count (commandline -opc))'
 complete -c upd -n "__fish_seen_subcommand_from trial; and test $words -eq 2" -a 'full quick normal'
-complete -c upd -n "__fish_seen_subcommand_from run; and test $words -eq 5" -a 'full quick normal'
+complete -c upd -n "__fish_seen_subcommand_from run run-at; and test $words -eq 5" -a 'full quick normal'
 complete -c upd -n "__fish_seen_subcommand_from correct-parts; and test $words -eq 6" -a 'full quick normal'
 complete -c upd -n "__fish_seen_subcommand_from explain; and test $words -eq 2" -a 'RunLong TooManyLines BadByte LineLong BadName BadCard BadField NoIdent TextNowhere NameTaken IdentUnknown DeckUnknown CardUnknown RangeOrder DeckCard YankText YankSelf Reserved Full CallUnknown CallDepth CompileLong BadSite BadNumber BadMode RunChanged Settled NoMemory Store BadFrame CutFrame Read Write'
 complete -c upd -n "__fish_seen_subcommand_from try try-at; and test $words -eq 3" -a 'full quick normal'
 complete -c upd -n "__fish_seen_subcommand_from help; and test $words -eq 2" -a "$commands"
-complete -c upd -n "__fish_seen_subcommand_from init run settle spool serve serve-local compile list history blame show idents yanks page text text-at correct correct-at correct-parts try try-at source runs sites backup examine replay migrate; and test $words -eq 2" -F
+complete -c upd -n "__fish_seen_subcommand_from init run settle spool serve serve-local compile list history blame show idents yanks page text text-at correct correct-at correct-parts try try-at run-at source runs sites backup examine replay migrate; and test $words -eq 2" -F
 complete -c upd -s h -l help -d 'show the words of a command'
 complete -c upd -s V -l version -d 'show the version'
 

@@ -12,6 +12,5 @@ pub use Rattle.upd_desk.proofs.Common.{check_arrival, memory_is_lost, uncounted}
 pub use Rattle.upd_desk.proofs.QueryLemmas.{fails_owed, store_fails}
 pub use Rattle.upd_edit.specs.Source.{source}
 pub use Rattle.upd_edit.specs.Trying.{tried}
-pub use Rattle.upd_edit.specs.WarningText.{warning}
 pub use Rattle.upd_edit.specs.YankWarnings.{is_followed}
 pub use Rattle.upd_row_store.proofs.Common.{name_of}

@@ -2,3 +2,4 @@ pub mod Common
 pub mod ToldLemmas
 mod WarningLemmas
 mod YankLemmas
+mod ConditionLemmas

@@ -1,13 +1,14 @@
 -- What is made of the library that a desk returned is made of the library after each journal that its store holds.
 use Rattle.upd_edit.proofs.Common.{◌≡◌, Bool, true, false, length, List, [], ◌∷◌, ℕ, Some, None, Ok, Err, sym, subst, rules, LibraryView, check_arrival}
 use Rattle.upd_edit.proofs.Common.{ap, source, tried}
-use Rattle.std.proofs.Common.{inl, inr, nat_lt, Option, Result, IsErrAnd}
+use Rattle.std.proofs.Common.{inl, inr, nat_lt, Option, Result, IsErrAnd, IsOkAnd}
+use Rattle.std.specs.Prelude.{◌⊎◌, unwrap_or}
 use Rattle.std.specs.Result.{result_map_both}
 use Rattle.upd_text.specs.declared.fault.Fault.{Fault}
 use Rattle.upd_text.specs.declared.fault.FaultKind.TheVariants.{BadMode, DeckUnknown, RunLong}
 use Rattle.upd_text.specs.declared.limits.TheConstants.{MAX_RUN_BYTES}
 use Rattle.upd_text.specs.Outcome.{◌>>=◌, at_line, need, refuse_if}
-use Rattle.upd_core.specs.Library.{deck_of}
+use Rattle.upd_core.specs.Library.{deck_of, ident_of}
 use Rattle.upd_core.specs.Actives.{actives_of}
 use Rattle.upd_compile.specs.File.{compile_file_of}
 use Rattle.upd_compile.specs.declared.mode.Mode.TheVariants.{Quick}
@@ -20,8 +21,8 @@ use Rattle.upd_desk.specs.Journal.{library_after}
 use Rattle.upd_desk.specs.Made.{IsMade}
 use Rattle.upd_desk.proofs.MadeLemmas.{library_made}
 use Rattle.upd_desk.proofs.QueryLemmas.{compile_keeps}
+use Rattle.upd_edit.specs.EditCauses.{EditBase, base_in, edited_in}
 use Rattle.upd_edit.specs.Earlier.{as_of}
-use Rattle.upd_edit.specs.EditCauses.{edited_in}
 use Rattle.upd_edit.specs.declared.editing.TheConstants.{MAX_TEXT_BYTES}
 
 module _ {S : Type 0} (meaning : Ghosts S) where
@@ -81,6 +82,20 @@ tried_keeps mode run f is = by_mode (mode_named mode) is
     by_mode None is = grind rules
     by_mode (Some m) is = by_length m (nat_lt MAX_RUN_BYTES (length run)) is
 
--- a text that isn't too long is edited in the library of its time
-pub fitting : (text since : List ℕ) (l : LibraryView) → nat_lt MAX_TEXT_BYTES (length text) ≡ false → edited_in text since l ≡ as_of since l
-fitting text since l is = ap (λ long. at_line 0 (refuse_if long RunLong) >>= (λ _. as_of since l)) is
+-- a text that isn't too long is edited in the libraries of its time and of now
+pub fitting : (text since : List ℕ) (l : LibraryView) → nat_lt MAX_TEXT_BYTES (length text) ≡ false → edited_in text since l ≡ base_in since l
+fitting text since l is = ap (λ long. at_line 0 (refuse_if long RunLong) >>= (λ _. base_in since l)) is
+
+-- what is so of a library as of an ident, of its serial and of the present library
+pub base_found : (since : List ℕ) (l taken : LibraryView) (last : ℕ) → as_of since l ≡ Ok taken → last ≡ unwrap_or (ident_of since l) 0
+    → (P : EditBase → Type 0) → P (record { taken = taken; last = last; met = l }) → IsOkAnd (base_in since l) P
+base_found since l taken last found is P holds =
+    subst (λ (r : Result LibraryView Fault). IsOkAnd (r >>= (λ (taken : LibraryView). Ok (record { taken = taken; last = unwrap_or (ident_of since l) 0; met = l }))) P)
+    (sym found) (subst (λ (serial : ℕ). P (record { taken = taken; last = serial; met = l })) is holds)
+
+-- no such library
+pub base_failed : (since : List ℕ) (l : LibraryView) (fault : Fault) → IsLost fault ⊎ (as_of since l ≡ Err fault)
+    → IsLost fault ⊎ (base_in since l ≡ Err fault)
+base_failed since l fault (inl lost) = inl lost
+base_failed since l fault (inr failed) =
+    inr (ap (λ (r : Result LibraryView Fault). r >>= (λ (taken : LibraryView). Ok (record { taken = taken; last = unwrap_or (ident_of since l) 0; met = l }))) failed)

@@ -1,14 +1,15 @@
 -- Why there is no run for an edited text of a desk.
-use Rattle.std.specs.Prelude.{◌≡◌, ℕ, ◌≤◌, ◌⊎◌, nat_lt, [], length, Result, Ok, Err, IsOkAnd}
+use Rattle.std.specs.Prelude.{◌≡◌, ℕ, ◌≤◌, ◌⊎◌, nat_lt, [], length, unwrap_or, Result, Ok, Err, IsOkAnd}
 use Rattle.upd_text.specs.declared.fault.Fault.{Fault}
 use Rattle.upd_text.specs.declared.fault.FaultKind.TheVariants.{RunLong}
 use Rattle.upd_text.specs.Outcome.{◌>>=◌, at_line, refuse_if}
 use Rattle.upd_text.specs.Units.{Bytes}
-use Rattle.upd_core.specs.Library.{LibraryView}
+use Rattle.upd_core.specs.Library.{LibraryView, ident_of}
+use Rattle.upd_core.specs.Serials.{Serial}
 use Rattle.upd_row_store.specs.Keeping.{IsLost, failures_with}
 use Rattle.upd_correct.specs.Causes.{AreRefusals}
-use Rattle.upd_correct.specs.Correcting.{CorrectsTo}
-use Rattle.upd_correct.specs.Parts.{part_name}
+use Rattle.upd_correct.specs.Correcting.{CorrectsSince}
+use Rattle.upd_correct.specs.Parts.{ArePartsRefusals}
 use Rattle.upd_correct.specs.Refusals.{refusals_of}
 use Rattle.upd_edit.specs.Earlier.{as_of}
 use Rattle.upd_edit.specs.declared.editing.EditError.{EditError}
@@ -18,13 +19,12 @@ use Rattle.upd_edit.specs.declared.editing.TheConstants.{MAX_TEXT_BYTES}
 -- a text is refused with its problems
 abbrev pub IsEditCause : LibraryView → Bytes → Bytes → EditError → Type 0
 IsEditCause l set text (Failed fault) = Unit {0}
-IsEditCause l set text (Refused refusals) = AreRefusals l set text refusals.items
+IsEditCause l set text (Refused refusals) = AreRefusals l l set text refusals.items
 
--- a text with problems is refused with all of them, for the set of the first part
+-- a text in parts is refused for its sets, with its problems, or for a part
 abbrev pub IsPartsRefusal : LibraryView → Bytes → Bytes → EditError → Type 0
 IsPartsRefusal l set text (Failed fault) = Unit {0}
-IsPartsRefusal l set text (Refused refusals) =
-    (refusals_of l (part_name set 1) text ≡ [] → ⊥) → refusals.items ≡ refusals_of l (part_name set 1) text
+IsPartsRefusal l set text (Refused refusals) = ArePartsRefusals l set text refusals.items
 
 -- a failure is a loss, where the text isn't too long
 abbrev pub IsEditLoss : Bytes → EditError → Type 0
@@ -37,14 +37,28 @@ failures_after_edit (Ok run) failures = failures
 failures_after_edit (Err (Failed fault)) failures = failures_with fault.kind failures
 failures_after_edit (Err (Refused refusals)) failures = failures
 
--- the library in which an edited text is corrected that was taken then; a text that is too long is refused first
-abbrev pub edited_in : Bytes → Bytes → LibraryView → Result LibraryView Fault
+-- What a text is corrected by that was taken earlier: the library that it was taken from, the serial of its youngest ident, and the library that the
+-- run meets.
+pub record EditBase : Type 0 where
+  pub taken : LibraryView
+  pub last : Serial
+  pub met : LibraryView
+
+-- what a text is corrected by that was taken when the ident with a name was the youngest
+abbrev pub base_in : Bytes → LibraryView → Result EditBase Fault
+base_in since l = do
+  taken ← as_of since l
+  Ok (record { taken = taken; last = unwrap_or (ident_of since l) 0; met = l })
+
+-- the same; a text that is too long is refused first
+abbrev pub edited_in : Bytes → Bytes → LibraryView → Result EditBase Fault
 edited_in text since l = do
   _ ← at_line 0 (refuse_if (nat_lt MAX_TEXT_BYTES (length text)) RunLong)
-  as_of since l
+  base_in since l
 
--- an edited text is answered by a run that leads decks of this library to it, or by what is wrong with it; or a call was lost, or there is no library
-abbrev pub IsAnswerIn : Result LibraryView Fault → Bytes → Bytes → Result Bytes EditError → Type 0
-IsAnswerIn library set text (Ok run) = IsOkAnd library (λ l. CorrectsTo l set text run × (refusals_of l set text ≡ []))
-IsAnswerIn library set text (Err (Refused refusals)) = IsOkAnd library (λ l. AreRefusals l set text refusals.items)
-IsAnswerIn library set text (Err (Failed fault)) = IsLost fault ⊎ (library ≡ Err fault)
+-- An edited text is answered by a run that leads its decks to it in the library that the run meets, or by what is wrong with it there or with the
+-- text; or a call was lost, or there is no library.
+abbrev pub IsAnswerIn : Result EditBase Fault → Bytes → Bytes → Result Bytes EditError → Type 0
+IsAnswerIn base set text (Ok run) = IsOkAnd base (λ b. CorrectsSince b.last b.taken b.met set text run × (refusals_of b.taken set text ≡ []))
+IsAnswerIn base set text (Err (Refused refusals)) = IsOkAnd base (λ b. AreRefusals b.taken b.met set text refusals.items)
+IsAnswerIn base set text (Err (Failed fault)) = IsLost fault ⊎ (base ≡ Err fault)

@@ -4,7 +4,9 @@ pub mod Source
 pub mod Trying
 pub mod RefusalLines
 pub mod NearWords
-pub mod WarningText
+pub mod Found
+pub mod Conflicts
 pub mod YankWarnings
 pub mod Warnings
 pub mod EditCauses
+pub mod Conditions

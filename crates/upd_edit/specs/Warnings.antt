@@ -1,8 +1,8 @@
 -- The warnings of a run that is tried on a library.
-use Rattle.std.specs.Prelude.{ℕ, ◌+◌, ◌-◌, ◌==◌, nat_lt, not, Bool, ◌&&◌, if◌then◌else◌, List, [], ◌∷◌, ◌++◌, length, count_by, position, find, reverse}
-use Rattle.std.specs.Prelude.{codes, decimal, drop, min, take, Option, Some, None, Result, Ok, Err}
-use Rattle.std.specs.List.{flat_map, slice_split}
-use Rattle.std.specs.Option.{option_and_then, option_map_or}
+use Rattle.std.specs.Prelude.{ℕ, ◌+◌, ◌-◌, ◌==◌, nat_lt, not, Bool, true, false, ◌&&◌, if◌then◌else◌, List, [], ◌∷◌, ◌++◌, length, count_by, position, find}
+use Rattle.std.specs.Prelude.{is_some, min, reverse, Option, Some, None, Result, Ok, Err}
+use Rattle.std.specs.List.{flat_map, list_any, slice_split}
+use Rattle.std.specs.Option.{option_and_then, option_map, option_map_or}
 use Rattle.std.specs.Str.{bytes_eq}
 use Rattle.upd_text.specs.declared.card_ref.CardRef.{CardRef}
 use Rattle.upd_text.specs.declared.fault.Fault.{Fault}
@@ -15,11 +15,17 @@ use Rattle.upd_core.specs.declared.library.Place.{Place}
 use Rattle.upd_core.specs.declared.target.Target.{Target}
 use Rattle.upd_core.specs.Library.{CardView, LibraryView, card_in, cards_of, ident_of, name_of, place_of}
 use Rattle.upd_core.specs.Serials.{Serial}
-use Rattle.upd_core.specs.Status.{is_active, is_taken, live_targets}
-use Rattle.upd_deck.specs.Items.{ItemView, LineView, Text, Delete, Restore, Yank, Purge}
+use Rattle.upd_core.specs.Status.{is_taken, live_targets}
+use Rattle.upd_deck.specs.Items.{ItemView, LineView, Text, Insert, Before, Delete, Restore, Yank, Purge}
 use Rattle.upd_deck.specs.Reading.{is_feed, reading}
+use Rattle.upd_edit.specs.declared.warning.Conflict.TheVariants.{CameAgain}
+use Rattle.upd_edit.specs.declared.warning.TakingWord.TheVariants as words
+use Rattle.upd_edit.specs.declared.warning.Warning.{Warning}
+use Rattle.upd_edit.specs.declared.warning.WarningKind.{WarningKind}
+use Rattle.upd_edit.specs.declared.warning.WarningKind.TheVariants.{Comments, Conflict, Empty, NearWord, OffAlready, Wide}
+use Rattle.upd_edit.specs.Conflicts.{before_conflict, insert_conflict, range_conflict}
+use Rattle.upd_edit.specs.Found.{conflicts_among, found}
 use Rattle.upd_edit.specs.NearWords.{near_word}
-use Rattle.upd_edit.specs.WarningText.{warning}
 use Rattle.upd_edit.specs.YankWarnings.{taking_warnings}
 
 -- ---- comments
@@ -28,25 +34,16 @@ use Rattle.upd_edit.specs.YankWarnings.{taking_warnings}
 abbrev pub lines_of : Bytes → List Bytes
 lines_of run = slice_split is_feed run
 
--- the warning that a number of comments are dropped, by the index of the first: `dropped comments: 2, the first here`
-abbrev pub dropped_warning : ℕ → ℕ → Bytes
-dropped_warning count first = warning (first + 1) (codes "dropped comments: " ∷ decimal count ∷ codes ", the first here" ∷ [])
-
--- the warning of the comments of a run
-abbrev pub comment_warning : Bytes → Bytes
-comment_warning run =
-    option_map_or (dropped_warning (count_by is_comment (lines_of run))) (position is_comment (lines_of run)) []
+-- the warning of the comments of a run, at the first
+abbrev pub comment_warnings : Bytes → List Warning
+comment_warnings run =
+    option_map_or (λ first. found (first + 1) (Some (Comments (count_by is_comment (lines_of run))))) (position is_comment (lines_of run)) []
 
 -- ---- text that may be meant for a directive
 
--- the warning of a word that may be meant for another: `*DELTE is text, not *DELETE`
-abbrev pub meant_warning : ℕ → Bytes → Bytes → Bytes
-meant_warning line word meant = warning line (codes "*" ∷ word ∷ codes " is text, not *" ∷ meant ∷ [])
-
 -- the warning of a text whose word may be meant for that of a directive or call
-abbrev pub text_warning : ℕ → Bytes → Bytes
-text_warning line text =
-    if is_starred text then option_map_or (meant_warning line (word text)) (near_word (word text)) [] else []
+abbrev pub text_kind : Bytes → Option WarningKind
+text_kind text = if is_starred text && is_some (near_word (word text)) then Some NearWord else None
 
 -- ---- cards that are off already
 
@@ -63,21 +60,11 @@ switched_off_by l deck card =
 abbrev pub off_by : CardRef → LibraryView → Option Bytes
 off_by card l = option_and_then (λ p. option_and_then (switched_off_by l p.deck) (card_in p l)) (place_of card l)
 
--- the warning of a card that an ident has switched off: `A.3 is off already, by X`
-abbrev pub off_by_warning : ℕ → CardRef → Bytes → Bytes
-off_by_warning line card set = warning line (card.name ∷ codes "." ∷ decimal card.number ∷ codes " is off already, by " ∷ set ∷ [])
-
 -- the warning of a card that is off already
-abbrev pub off_warning : ℕ → CardRef → LibraryView → Bytes
-off_warning line card l = option_map_or (off_by_warning line card) (off_by card l) []
+abbrev pub off_kind : CardRef → LibraryView → Option WarningKind
+off_kind card l = option_map (λ by. OffAlready card by) (off_by card l)
 
--- the warnings of the ends of a range that are off already
-abbrev pub ends_warnings : ℕ → CardRef → CardRef → LibraryView → Bytes
-ends_warnings line first last l =
-    off_warning line first l
-    ++ (if bytes_eq first.name last.name && (first.number == last.number) then [] else off_warning line last l)
-
--- ---- wide ranges
+-- ---- ranges
 
 -- the number of the cards from one place to another of a deck
 abbrev pub cards_between : Option Place → Option Place → LibraryView → ℕ
@@ -88,62 +75,78 @@ cards_between p q l = 0
 abbrev pub narrow : ℕ
 narrow = 20
 
--- the warning of a wide range: `the range has 27 cards`
-abbrev pub wide_warning : ℕ → CardRef → CardRef → LibraryView → Bytes
-wide_warning line first last l =
+-- the warning of a wide range
+abbrev pub wide_kind : CardRef → CardRef → LibraryView → Option WarningKind
+wide_kind first last l =
     let count = cards_between (place_of first l) (place_of last l) l in
-    if nat_lt narrow count then warning line (codes "the range has " ∷ decimal count ∷ codes " cards" ∷ []) else []
+    if nat_lt narrow count then Some (Wide count) else None
 
--- ---- cards that came after an ident
+-- ---- what younger idents have done
 
--- whether a card of a deck is active and came after an ident
-abbrev pub came_after : List Target → Serial → Serial → CardView → Bool
-came_after live deck z card = nat_lt z card.ident && is_active live deck card
+-- the conflict of a range, of an `*INSERT` and of a `*BEFORE`, where an ident is given
+abbrev pub range_kind : LibraryView → Option Serial → CardRef → CardRef → Bool → Option WarningKind
+range_kind l z first last deletes = option_and_then (λ z. option_map (λ met. Conflict met) (range_conflict l z first last deletes)) z
 
--- the first such card from one place to another of a deck
-abbrev pub later_card : Serial → Place → Place → LibraryView → Option CardView
-later_card z p q l =
-    find (came_after (live_targets l) p.deck z) (drop p.index (take (min (length (cards_of p.deck l)) (q.index + 1)) (cards_of p.deck l)))
+abbrev pub insert_kind : LibraryView → Option Serial → CardRef → Option WarningKind
+insert_kind l z card = option_and_then (λ z. option_map (λ met. Conflict met) (insert_conflict l z card)) z
 
--- the warning of a card that came after an ident: `B.3 came after A and is deleted`
-abbrev pub later_warning : ℕ → LibraryView → Serial → CardView → Bytes
-later_warning line l z card =
-    warning line (name_of l.idents card.ident ∷ codes "." ∷ decimal card.number ∷ codes " came after " ∷ name_of l.idents z ∷ codes " and is deleted" ∷ [])
+abbrev pub before_kind : LibraryView → Option Serial → CardRef → Option WarningKind
+before_kind l z card = option_and_then (λ z. option_map (λ met. Conflict met) (before_conflict l z card)) z
 
--- the warning of the first card of a range that came after an ident, where one is given
-abbrev pub range_warning : ℕ → Option Serial → Option Place → Option Place → LibraryView → Bytes
-range_warning line (Some z) (Some p) (Some q) l = if p.deck == q.deck then option_map_or (later_warning line l z) (later_card z p q l) [] else []
-range_warning line z p q l = []
+-- whether a purged ident has a name
+abbrev pub came_again : Bytes → LibraryView → Bool
+came_again name l = list_any (λ i. not i.held && bytes_eq i.name name) l.idents
 
--- the warnings of a range that is deleted
-abbrev pub deletion_warnings : LibraryView → Option Serial → ℕ → CardRef → CardRef → Bytes
-deletion_warnings l z line first last =
-    ends_warnings line first last l ++ (wide_warning line first last l ++ range_warning line z (place_of first l) (place_of last l) l)
+-- the conflict of a name that a purged ident has as well
+abbrev pub again_by : Bytes → LibraryView → Option WarningKind
+again_by name l = if came_again name l then Some (Conflict (CameAgain name)) else None
+
+-- that of the ident with a serial, where one is given
+abbrev pub again_kind : Option Serial → LibraryView → Option WarningKind
+again_kind z l = option_and_then (λ z. again_by (name_of l.idents z) l) z
 
 -- ---- lines and runs
 
+-- the warnings of a range that is deleted
+abbrev pub deletion_warnings : LibraryView → Option Serial → ℕ → CardRef → CardRef → List Warning
+deletion_warnings l z line first last =
+    found line (off_kind first l)
+    ++ ((if bytes_eq first.name last.name && (first.number == last.number) then [] else found line (off_kind last l))
+    ++ (found line (wide_kind first last l) ++ found line (range_kind l z first last true)))
+
+-- those of a range that is restored
+abbrev pub restored_warnings : LibraryView → Option Serial → ℕ → CardRef → CardRef → List Warning
+restored_warnings l z line first last = found line (wide_kind first last l) ++ found line (range_kind l z first last false)
+
 -- the warnings of an item, with the text of its line
-abbrev pub item_warnings : LibraryView → Option Serial → ℕ → Bytes → ItemView → Bytes
-item_warnings l z line text Text = text_warning line text
+abbrev pub item_warnings : LibraryView → Option Serial → ℕ → Bytes → ItemView → List Warning
+item_warnings l z line text Text = found line (text_kind text)
 item_warnings l z line text (Delete first last) = deletion_warnings l z line first last
-item_warnings l z line text (Restore first last) = wide_warning line first last l
-item_warnings l z line text (Yank names) = taking_warnings line (codes "yank") l names
-item_warnings l z line text (Purge names) = taking_warnings line (codes "purge") l names
+item_warnings l z line text (Restore first last) = restored_warnings l z line first last
+item_warnings l z line text (Insert card) = found line (insert_kind l z card)
+item_warnings l z line text (Before card) = found line (before_kind l z card)
+item_warnings l z line text (Yank names) = taking_warnings line words.Yank l names
+item_warnings l z line text (Purge names) = taking_warnings line words.Purge l names
 item_warnings l z line text _ = []
 
 -- the warnings of a line
-abbrev pub line_warnings : LibraryView → Option Serial → LineView → Bytes
+abbrev pub line_warnings : LibraryView → Option Serial → LineView → List Warning
 line_warnings l z line = item_warnings l z line.number line.text line.item
 
 -- the warning of a run with no lines
-abbrev pub empty_warning : List LineView → Bytes
-empty_warning [] = warning 1 (codes "the run is empty: it changes nothing" ∷ [])
-empty_warning (line ∷ lines) = []
+abbrev pub empty_kind : List LineView → Option WarningKind
+empty_kind [] = Some Empty
+empty_kind (line ∷ lines) = None
 
--- the warnings of a run by its reading: of its comments, and then of its lines in order; none where it can't be read
-abbrev pub read_warnings : Bytes → Result (List LineView) Fault → Option Serial → LibraryView → Bytes
+-- the warnings of a run that was read: of its comments, of an empty run, of SINCE, and then of its lines in order
+abbrev pub run_warnings : Bytes → List LineView → Option Serial → LibraryView → List Warning
+run_warnings run lines z l =
+    comment_warnings run ++ (found 1 (empty_kind lines) ++ (found 1 (again_kind z l) ++ flat_map (line_warnings l z) lines))
+
+-- those of a run by its reading: none where it can't be read
+abbrev pub read_warnings : Bytes → Result (List LineView) Fault → Option Serial → LibraryView → List Warning
 read_warnings run (Err fault) z l = []
-read_warnings run (Ok lines) z l = comment_warning run ++ (empty_warning lines ++ flat_map (line_warnings l z) lines)
+read_warnings run (Ok lines) z l = run_warnings run lines z l
 
 -- the serial of the ident with a name, where one is given
 abbrev pub serial_since : Option Bytes → LibraryView → Result (Option Serial) Fault
@@ -151,5 +154,9 @@ serial_since None l = Ok None
 serial_since (Some name) l = at_line 0 (need IdentUnknown (ident_of name l)) >>= (λ z. Ok (Some z))
 
 -- the warnings of a run that is tried on a library, where its author may have seen no ident later than one
-abbrev pub warning_lines : Option Bytes → Bytes → LibraryView → Result Bytes Fault
-warning_lines since run l = serial_since since l >>= (λ z. Ok (read_warnings run (reading run) z l))
+abbrev pub warning_list : Option Bytes → Bytes → LibraryView → Result (List Warning) Fault
+warning_list since run l = serial_since since l >>= (λ z. Ok (read_warnings run (reading run) z l))
+
+-- the conflicts of such a run
+abbrev pub conflicts : Bytes → Bytes → LibraryView → Result (List Warning) Fault
+conflicts since run l = warning_list (Some since) run l >>= (λ list. Ok (conflicts_among list))

@@ -1,18 +1,21 @@
 -- The warnings of a yank or purge that is tried: what younger idents have made of its cards, and which decks stay.
-use Rattle.std.specs.Prelude.{ℕ, ◌-◌, nat_lt, Bool, false, not, ◌&&◌, if◌then◌else◌, List, [], ◌∷◌, ◌++◌, drop, slice_get, codes, decimal, Option, Some, None}
+use Rattle.std.specs.Prelude.{ℕ, ◌-◌, nat_lt, Bool, false, not, ◌&&◌, if◌then◌else◌, List, ◌++◌, drop, slice_get, Option, Some, None}
 use Rattle.std.specs.Prelude.{is_some}
 use Rattle.std.specs.List.{filter_map, find, flat_map, list_any, zip}
 use Rattle.std.specs.Option.{option_and_then, option_map, option_map_or}
-use Rattle.upd_text.specs.Units.{Bytes}
 use Rattle.upd_core.specs.declared.card.Entry.{Entry}
 use Rattle.upd_core.specs.declared.ident.Ident.{Ident}
 use Rattle.upd_core.specs.declared.target.Target.{Target}
-use Rattle.upd_core.specs.Library.{CardView, DeckView, LibraryView, ident_of, is_deck_kind, name_of}
+use Rattle.upd_core.specs.Library.{CardView, DeckView, LibraryView, ident_of, is_deck_kind, name_of, ref_of}
 use Rattle.upd_core.specs.Serials.{Serial}
 use Rattle.upd_core.specs.Status.{is_taken, live_targets}
 use Rattle.upd_apply.specs.Names.{Ages, is_in}
 use Rattle.upd_deck.specs.declared.item.NameRange.{NameRange}
-use Rattle.upd_edit.specs.WarningText.{warning}
+use Rattle.upd_edit.specs.declared.warning.TakingWord.{TakingWord}
+use Rattle.upd_edit.specs.declared.warning.Warning.{Warning}
+use Rattle.upd_edit.specs.declared.warning.WarningKind.{WarningKind}
+use Rattle.upd_edit.specs.declared.warning.WarningKind.TheVariants.{DeckStays, TakesFollowed, TakesSwitched}
+use Rattle.upd_edit.specs.Found.{found}
 
 -- ---- the idents that go
 
@@ -39,17 +42,15 @@ younger_entry live deck ranges c = find (λ e. stays live deck ranges c.ident e.
 abbrev pub is_switched : List Target → Serial → List Ages → CardView → Bool
 is_switched live deck ranges c = goes ranges c.ident && is_some (younger_entry live deck ranges c)
 
--- the warning of a card that goes, by an entry: `P08 switched P03.22, which this yank takes`
-abbrev pub entry_warning : ℕ → Bytes → LibraryView → CardView → Entry → Bytes
-entry_warning line word l c e =
-    warning line (name_of l.idents e.ident ∷ codes " switched " ∷ name_of l.idents c.ident ∷ codes "." ∷ decimal c.number
-    ∷ codes ", which this " ∷ word ∷ codes " takes" ∷ [])
+-- the warning of a card that goes, by an entry
+abbrev pub entry_kind : TakingWord → LibraryView → CardView → Entry → WarningKind
+entry_kind word l c e = TakesSwitched word (ref_of l.idents c) (name_of l.idents e.ident)
 
 -- the warning of the first card of a deck that goes and that a younger ident has switched
-abbrev pub switched_warning : ℕ → Bytes → LibraryView → List Ages → DeckView → Bytes
-switched_warning line word l ranges d =
-    option_map_or (λ c. option_map_or (entry_warning line word l c) (younger_entry (live_targets l) d.ident ranges c) [])
-    (find (is_switched (live_targets l) d.ident ranges) d.cards) []
+abbrev pub switched_kind : TakingWord → LibraryView → List Ages → DeckView → Option WarningKind
+switched_kind word l ranges d =
+    option_and_then (λ c. option_map (entry_kind word l c) (younger_entry (live_targets l) d.ident ranges c))
+    (find (is_switched (live_targets l) d.ident ranges) d.cards)
 
 -- ---- cards that younger idents have put behind them
 
@@ -57,16 +58,13 @@ switched_warning line word l ranges d =
 abbrev pub is_followed : List Target → Serial → List Ages → CardView × CardView → Bool
 is_followed live deck ranges p = goes ranges p.0.ident && stays live deck ranges p.0.ident p.1.ident
 
--- the warning of two neighbours: `P16.3 follows P11.7, which this yank takes`
-abbrev pub neighbours_warning : ℕ → Bytes → LibraryView → CardView × CardView → Bytes
-neighbours_warning line word l p =
-    warning line (name_of l.idents p.1.ident ∷ codes "." ∷ decimal p.1.number ∷ codes " follows " ∷ name_of l.idents p.0.ident ∷ codes "."
-    ∷ decimal p.0.number ∷ codes ", which this " ∷ word ∷ codes " takes" ∷ [])
+-- the warning of two neighbours
+abbrev pub neighbours_kind : TakingWord → LibraryView → CardView × CardView → WarningKind
+neighbours_kind word l p = TakesFollowed word (ref_of l.idents p.0) (ref_of l.idents p.1)
 
 -- the warning of the first such neighbours of a deck
-abbrev pub followed_warning : ℕ → Bytes → LibraryView → List Ages → DeckView → Bytes
-followed_warning line word l ranges d =
-    option_map_or (neighbours_warning line word l) (find (is_followed (live_targets l) d.ident ranges) (zip d.cards (drop 1 d.cards))) []
+abbrev pub followed_kind : TakingWord → LibraryView → List Ages → DeckView → Option WarningKind
+followed_kind word l ranges d = option_map (neighbours_kind word l) (find (is_followed (live_targets l) d.ident ranges) (zip d.cards (drop 1 d.cards)))
 
 -- ---- decks that stay
 
@@ -81,25 +79,23 @@ deck_after l ranges r =
     then option_and_then (λ i. if i.held && (is_deck_kind i.kind && not (goes ranges i.age)) then Some i else None) (slice_get l.idents r.to)
     else None
 
--- the warning of a deck that came after an ident: `NEWD came after S1 and stays: yank S1,NEWD`
-abbrev pub staying_warning : ℕ → Bytes → Bytes → Bytes → Bytes
-staying_warning line word last deck =
-    warning line (deck ∷ codes " came after " ∷ last ∷ codes " and stays: " ∷ word ∷ codes " " ∷ last ∷ codes "," ∷ deck ∷ [])
+-- the warning of the deck that came right after the last ident of a range, and stays
+abbrev pub deck_kind : TakingWord → LibraryView → List Ages → Ages → Option WarningKind
+deck_kind word l ranges r = option_map (λ i. DeckStays word (name_of l.idents r.to) i.name) (deck_after l ranges r)
 
--- the warning of the deck that came right after the last ident of a range
-abbrev pub deck_warning : ℕ → Bytes → LibraryView → List Ages → Ages → Bytes
-deck_warning line word l ranges r =
-    option_map_or (λ i. staying_warning line word (name_of l.idents r.to) i.name) (deck_after l ranges r) []
+-- the same at a line
+abbrev pub deck_warning : ℕ → TakingWord → LibraryView → List Ages → Ages → List Warning
+deck_warning line word l ranges r = found line (deck_kind word l ranges r)
 
 -- the warnings of a deck
-abbrev pub deck_warnings : ℕ → Bytes → LibraryView → List Ages → DeckView → Bytes
-deck_warnings line word l ranges d = switched_warning line word l ranges d ++ followed_warning line word l ranges d
+abbrev pub deck_warnings : ℕ → TakingWord → LibraryView → List Ages → DeckView → List Warning
+deck_warnings line word l ranges d = found line (switched_kind word l ranges d) ++ found line (followed_kind word l ranges d)
 
 -- the warnings of a yank or purge of idents
-abbrev pub ranges_warnings : ℕ → Bytes → LibraryView → List Ages → Bytes
+abbrev pub ranges_warnings : ℕ → TakingWord → LibraryView → List Ages → List Warning
 ranges_warnings line word l ranges =
     flat_map (deck_warning line word l ranges) ranges ++ flat_map (deck_warnings line word l ranges) l.decks
 
 -- the same of what ranges of names name
-abbrev pub taking_warnings : ℕ → Bytes → LibraryView → List NameRange → Bytes
+abbrev pub taking_warnings : ℕ → TakingWord → LibraryView → List NameRange → List Warning
 taking_warnings line word l names = ranges_warnings line word l (filter_map (serials_of l) names)

@@ -11,17 +11,17 @@ ghost use Rattle.upd_desk.specs.Holding.{EachHeld, Tells};
 ghost use Rattle.upd_desk.specs.Journal.{library_after};
 ghost use Rattle.upd_desk.specs.Outcomes.{reply_on};
 ghost use Rattle.upd_edit.specs.ActiveText.{active_text};
-ghost use Rattle.upd_edit.specs.Earlier.{as_of};
-ghost use Rattle.upd_edit.specs.EditCauses.{IsAnswerIn, IsEditCause, IsEditLoss, IsPartsRefusal, edited_in, failures_after_edit};
+ghost use Rattle.upd_edit.specs.EditCauses.{IsAnswerIn, IsEditCause, IsEditLoss, IsPartsRefusal, base_in, edited_in, failures_after_edit};
 ghost use Rattle.upd_edit.specs.Source.{source};
 ghost use Rattle.upd_edit.specs.Trying.{tried};
-ghost use Rattle.upd_edit.specs.Warnings.{warning_lines};
+ghost use Rattle.upd_edit.specs.Warnings.{warning_list};
 ghost use Rattle.upd_row_store.specs.Keeping.{CountsFailure, IsLost, Keeps};
 
 use crate::deck_source::source;
 use crate::deck_text::active_text;
 use crate::earlier::as_of;
-use crate::warnings::warning_lines;
+use crate::warning::Warning;
+use crate::warnings::warning_list;
 use std::alloc::Global;
 use upd_compile::CompileFile;
 use upd_core::{Library, Name};
@@ -108,22 +108,22 @@ pub fn try_at<S: RowStore>(
     }
 }
 
-/// The warnings of a run that is tried now, as `upd_edit::warning_lines` says them. After NoMemory or Store, at 0, it can
-/// be asked again.
+/// The warnings of a run that is tried now, as `upd_edit::warning_list` makes them. After NoMemory or Store, at 0, it can be
+/// asked again.
 pub fn warnings_at<S: RowStore>(
     alloc: Global,
     desk: &mut Desk<S>,
     since: Option<Name>,
     run: &[u8],
-) -> Result<Vec<u8>, Fault>
-    ensures text { Tells S.Meaning (warning_lines since run.now)
-        (result_map_both (λ text. text.items) (λ fault. fault) result) desk.old.store desk.new.store }
+) -> Result<Vec<Warning>, Fault>
+    ensures list { Tells S.Meaning (warning_list since run.now)
+        (result_map_both (λ list. list.items) (λ fault. fault) result) desk.old.store desk.new.store }
     ensures same { Keeps S.Meaning desk.old.store desk.new.store }
     ensures failed { CountsFailure S.Meaning result desk.old.store desk.new.store }
 {
     let library = desk.library(alloc)?;
-    match warning_lines(alloc, &library, since, run) {
-        Ok(text) => Ok(text),
+    match warning_list(alloc, &library, since, run) {
+        Ok(list) => Ok(list),
         Err(fault) => Err(fault),
     }
 }
@@ -165,9 +165,9 @@ pub fn correct_at<S: RowStore>(
     }
 }
 
-/// The run that leads decks to their edited texts in the library as it was when an ident was the youngest: what came
-/// later is left alone. RunLong comes first, then the fault of `as_of`, at 0, and then the refusals of `correct_at`. After
-/// NoMemory or Store, at 0, it can be asked again.
+/// The run that leads decks to their edited texts, which were taken when an ident was the youngest. The run is checked in
+/// the library as it is: what came later is left alone, and a card that is in the way is refused. RunLong comes first, then
+/// the fault of `as_of`, at 0, and then the refusals. After NoMemory or Store, at 0, it can be asked again.
 pub fn correct_since<S: RowStore>(
     alloc: Global,
     desk: &mut Desk<S>,
@@ -198,12 +198,13 @@ fn corrected_since(
     set: &[u8],
     text: &[u8],
 ) -> Result<Vec<u8>, EditError>
-    ensures answer { IsAnswerIn (as_of since.now library.now) set.now text.now
+    ensures answer { IsAnswerIn (base_in since.now library.now) set.now text.now
         (result_map_both (λ run. run.items) (λ error. error) result) }
     ensures kept { (failures : ℕ) → failures_after_edit result failures ≡ failures }
 {
+    let last = library.ident_of(since).unwrap_or(0);
     match as_of(alloc, library, since) {
-        Ok(earlier) => match correct(alloc, &earlier, set, text) {
+        Ok(taken) => match upd_correct::correct_since(alloc, library, &taken, last, set, text) {
             Ok(run) => Ok(run),
             Err(CorrectError::NoMemory) => Err(EditError::Failed(
                 FaultKind::NoMemory.without_line(),

@@ -4,17 +4,20 @@
 //! Each call has a form over a `Library`, and a form over a desk that reads the library from its store.
 #![tactic(auto)]
 
+pub mod condition;
 pub mod deck_source;
 pub mod deck_text;
 pub mod earlier;
 pub mod editing;
+mod meeting;
 mod near_words;
-mod range_warnings;
 pub mod refused;
-mod warning_text;
+pub mod warning;
+pub mod warning_text;
 pub mod warnings;
 mod yank_warnings;
 
+pub use condition::arrive_since;
 pub use deck_source::source;
 pub use deck_text::active_text;
 pub use earlier::as_of;
@@ -23,4 +26,6 @@ pub use editing::{
     warnings_at,
 };
 pub use refused::refusal_lines;
-pub use warnings::warning_lines;
+pub use warning::{Conflict, TakingWord, Warning, WarningKind};
+pub use warning_text::write_warnings;
+pub use warnings::{conflicts, warning_list};

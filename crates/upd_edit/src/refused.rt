@@ -1,11 +1,14 @@
 //! The lines that report the refusals of an edited text.
 ghost use Rattle.std.specs.Prelude.{◌≡◌, ◌++◌, IfOk, OnOk};
 ghost use Rattle.std.specs.List.{flat_map};
-ghost use Rattle.upd_edit.specs.RefusalLines.{problem_name, problem_text, refusal_line, refusal_lines};
+ghost use Rattle.upd_edit.specs.RefusalLines.{part_text, problem_name, problem_subject, problem_text, refusal_line, refusal_lines};
+ghost use Rattle.upd_edit.specs.RefusalLines.{refusal_place, refusal_words};
 
 use itoa::Buffer;
 use std::alloc::{AllocError, Global};
+use upd_core::CardRef;
 use upd_correct::{Problem, Refusal};
+use upd_text::Name;
 
 /// A line for each refusal, with LF: the name of the problem, line and column, and what it is in words.
 pub fn refusal_lines(alloc: Global, refusals: &[Refusal]) -> Result<Vec<u8>, AllocError>
@@ -28,12 +31,27 @@ fn push_refusals(text: &mut Vec<u8>, refusals: &[Refusal]) -> Result<(), AllocEr
 fn push_refusal(text: &mut Vec<u8>, refusal: &Refusal) -> Result<(), AllocError>
     ensures { OnOk result (text.new.items ≡ text.old.items ++ refusal_line refusal.now) }
 {
+    push_place(text, refusal)?;
+    push_words(text, refusal)
+}
+
+/// Appends the name and the place of the problem.
+fn push_place(text: &mut Vec<u8>, refusal: &Refusal) -> Result<(), AllocError>
+    ensures { OnOk result (text.new.items ≡ text.old.items ++ refusal_place refusal.now) }
+{
     text.extend_from_slice(problem_name(refusal.problem).as_bytes())?;
     text.extend_from_slice(b" ")?;
     text.extend_from_slice(Buffer::new().format(refusal.line).as_bytes())?;
     text.extend_from_slice(b":")?;
     text.extend_from_slice(Buffer::new().format(refusal.column).as_bytes())?;
-    text.extend_from_slice(b" ")?;
+    text.extend_from_slice(b" ")
+}
+
+/// Appends what the problem names, and what it is in words.
+fn push_words(text: &mut Vec<u8>, refusal: &Refusal) -> Result<(), AllocError>
+    ensures { OnOk result (text.new.items ≡ text.old.items ++ refusal_words refusal.now) }
+{
+    push_subject(text, refusal.problem)?;
     text.extend_from_slice(problem_text(refusal.problem).as_bytes())?;
     text.extend_from_slice(b"\n")
 }
@@ -57,7 +75,44 @@ fn problem_name(problem: Problem) -> &'static str
         Problem::RunLong => "RunLong",
         Problem::Full => "Full",
         Problem::Unchecked => "Unchecked",
+        Problem::Conflict { .. } => "Conflict",
+        Problem::NoSet => "BadName",
+        Problem::SetLong => "BadName",
+        Problem::PartTaken(_) => "NameTaken",
+        Problem::PartName(_) => "BadName",
+        Problem::PartFull(_) => "Full",
     }
+}
+
+/// Appends what a problem names.
+fn push_subject(text: &mut Vec<u8>, problem: Problem) -> Result<(), AllocError>
+    ensures { OnOk result (text.new.items ≡ text.old.items ++ problem_subject problem) }
+{
+    match problem {
+        Problem::Conflict { card, set } => push_taken(text, card, set),
+        Problem::PartTaken(number) => push_part(text, number),
+        Problem::PartName(number) => push_part(text, number),
+        Problem::PartFull(number) => push_part(text, number),
+        _ => Ok(()),
+    }
+}
+
+fn push_taken(text: &mut Vec<u8>, card: CardRef, set: Name) -> Result<(), AllocError>
+    ensures { OnOk result (text.new.items ≡ text.old.items ++ problem_subject (Problem.Conflict card set)) }
+{
+    text.extend_from_slice(card.name.as_bytes())?;
+    text.extend_from_slice(b".")?;
+    text.extend_from_slice(Buffer::new().format(card.number).as_bytes())?;
+    text.extend_from_slice(b" was taken out of use by ")?;
+    text.extend_from_slice(set.as_bytes())
+}
+
+fn push_part(text: &mut Vec<u8>, number: usize) -> Result<(), AllocError>
+    ensures { OnOk result (text.new.items ≡ text.old.items ++ part_text number) }
+{
+    text.extend_from_slice(b"part ")?;
+    text.extend_from_slice(Buffer::new().format(number).as_bytes())?;
+    text.extend_from_slice(b": ")
 }
 
 fn problem_text(problem: Problem) -> &'static str
@@ -79,5 +134,11 @@ fn problem_text(problem: Problem) -> &'static str
         Problem::RunLong => "the run would have more than 65536 bytes: correct it in parts",
         Problem::Full => "the library has no room for this run",
         Problem::Unchecked => "the run that was made does not lead to this text: report it",
+        Problem::Conflict { .. } => ", which came after this text",
+        Problem::NoSet => "the name of the sets is empty",
+        Problem::SetLong => "the name of the sets has at most 8 bytes, since a number follows it",
+        Problem::PartTaken(_) => "its set's name is in use",
+        Problem::PartName(_) => "its set's name is not a name",
+        Problem::PartFull(_) => "the library has no room for its run",
     }
 }

@@ -1,23 +1,139 @@
-//! The form of a warning.
+//! The texts of warnings.
+ghost use Rattle.std.specs.Prelude.{◌≡◌, [], IfOk};
 
-ghost use Rattle.std.specs.Prelude.{◌≡◌, ◌++◌, map, OnOk};
-ghost use Rattle.upd_edit.specs.WarningText.{warning};
+use crate::near_words::near_word;
+use crate::warning::{Conflict, TakingWord, Warning, WarningKind};
+use std::alloc::{AllocError, Global};
+use upd_text::line::word;
 
-use itoa::Buffer;
-use std::alloc::AllocError;
-use upd_compile::text_parts::push_parts;
-
-/// Appends a warning at a line: `upd: LINE: words` and LF.
-pub(crate) fn push_warning(
-    text: &mut Vec<u8>,
-    number: usize,
-    words: &[&[u8]],
-) -> Result<(), AllocError>
-    ensures { OnOk result (text.new.items ≡ text.old.items ++ warning number (map (λ w. w.now) words.now)) }
+/// The texts of warnings of a run, a line each: `upd: LINE: words` and LF.
+pub fn write_warnings(
+    alloc: Global,
+    run: &[u8],
+    warnings: &[Warning],
+) -> Result<Vec<u8>, AllocError>
+    ensures { IfOk result (λ text. warnings.now ≡ [] → text.items ≡ []) }
 {
-    text.extend_from_slice(b"upd: ")?;
-    text.extend_from_slice(Buffer::new().format(number).as_bytes())?;
-    text.extend_from_slice(b": ")?;
-    push_parts(text, words)?;
-    text.extend_from_slice(b"\n")
+    if warnings.is_empty() {
+        return Ok(Vec::new(alloc));
+    }
+    let mut text = Vec::new(alloc);
+    for warning in warnings {
+        let line = warning_line(alloc, run, warning)?;
+        text.extend_from_slice(line.as_bytes())?;
+    }
+    Ok(text)
+}
+
+/// The text of a warning.
+fn warning_line(alloc: Global, run: &[u8], warning: &Warning) -> Result<String, AllocError> {
+    let words = match &warning.kind {
+        WarningKind::NearWord => near_words(alloc, run, warning.line)?,
+        WarningKind::Conflict(conflict) => conflict_words(alloc, conflict)?,
+        kind => kind_words(alloc, kind)?,
+    };
+    format!(in alloc; "upd: {}: {}\n", warning.line, words)
+}
+
+/// The words of a warning of a text that may be meant for a directive or call. The text is the line with a number.
+fn near_words(alloc: Global, run: &[u8], line: usize) -> Result<String, AllocError> {
+    let text = run
+        .split(|&byte| byte == b'\n')
+        .nth(line.saturating_sub(1))
+        .unwrap_or(b"");
+    let meant = near_word(alloc, word(text))?.unwrap_or(b"");
+    let mut words = String::from_str(alloc, "*")?;
+    words.push_str(shown(word(text)))?;
+    words.push_str(" is text, not *")?;
+    words.push_str(shown(meant))?;
+    Ok(words)
+}
+
+/// A text of printable bytes.
+fn shown(text: &[u8]) -> &str {
+    std::str::from_utf8(text).unwrap_or("")
+}
+
+/// The words of a warning that is neither of these.
+fn kind_words(alloc: Global, kind: &WarningKind) -> Result<String, AllocError> {
+    match kind {
+        WarningKind::Comments(count) => format!(in alloc;
+            "dropped comments: {}, the first here",
+            count
+        ),
+        WarningKind::OffAlready { card, by } => format!(in alloc;
+            "{} is off already, by {}",
+            card, by
+        ),
+        WarningKind::Wide(count) => format!(in alloc; "the range has {} cards", count),
+        WarningKind::TakesSwitched { word, card, by } => {
+            format!(in alloc;
+                "{} switched {}, which this {} takes",
+                by,
+                card,
+                taking(*word)
+            )
+        }
+        WarningKind::TakesFollowed { word, card, next } => {
+            format!(in alloc;
+                "{} follows {}, which this {} takes",
+                next,
+                card,
+                taking(*word)
+            )
+        }
+        WarningKind::DeckStays { word, last, deck } => {
+            format!(in alloc;
+                "{} came after {} and stays: {} {},{}",
+                deck,
+                last,
+                taking(*word),
+                last,
+                deck
+            )
+        }
+        _ => String::from_str(alloc, "the run is empty: it changes nothing"),
+    }
+}
+
+fn taking(word: TakingWord) -> &'static str {
+    match word {
+        TakingWord::Yank => "yank",
+        TakingWord::Purge => "purge",
+    }
+}
+
+/// The words of a conflict.
+fn conflict_words(alloc: Global, conflict: &Conflict) -> Result<String, AllocError> {
+    match conflict {
+        Conflict::Deleted { card, since } => format!(in alloc;
+            "{} came after {} and is deleted",
+            card, since
+        ),
+        Conflict::CameLater { card, since } => format!(in alloc; "{} came after {}", card, since),
+        Conflict::Beside { card, next, since } => {
+            format!(in alloc;
+                "{} stands beside {}, which came after {}",
+                card, next, since
+            )
+        }
+        Conflict::Switched { card, by, since } => {
+            format!(in alloc;
+                "{} was switched by {}, which came after {}",
+                card, by, since
+            )
+        }
+        Conflict::TakenOut { card, by, since } => {
+            format!(in alloc;
+                "{} was taken out by {}, which came after {}",
+                card, by, since
+            )
+        }
+        Conflict::CameAgain { since } => {
+            format!(in alloc;
+                "{} was purged and came again: what its purge took out isn't seen",
+                since
+            )
+        }
+    }
 }

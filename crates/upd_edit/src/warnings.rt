@@ -1,40 +1,63 @@
 //! Warnings of a run that is tried: what it does that its author may not mean.
-ghost use Rattle.std.specs.Prelude.{◌≡◌, ◌+◌, ◌<◌, ◌^◌, ◌++◌, count_by, map, position, IfSome, Ok, OnOk};
+ghost use Rattle.std.specs.Prelude.{◌≡◌, ◌+◌, ◌<◌, ◌^◌, ◌++◌, count_by, position, IfOk, IfSome, Ok, OnOk};
 ghost use Rattle.std.specs.List.{flat_map};
-ghost use Rattle.upd_core.specs.Library.{name_of};
+ghost use Rattle.upd_core.specs.Library.{name_of, ref_of};
 ghost use Rattle.upd_core.specs.Status.{live_of};
 ghost use Rattle.upd_deck.specs.Reading.{reading};
 ghost use Rattle.upd_text.specs.Lines.{is_comment};
 ghost use Rattle.upd_text.specs.Outcome.{GivesAt};
-ghost use Rattle.upd_edit.specs.Warnings.{comment_warning, deletion_warnings, dropped_warning, empty_warning, ends_warnings};
-ghost use Rattle.upd_edit.specs.Warnings.{last_entry, line_warnings, lines_of, meant_warning, off_by, off_by_warning, off_warning};
-ghost use Rattle.upd_edit.specs.Warnings.{read_warnings, serial_since, text_warning, warning_lines};
+ghost use Rattle.upd_edit.specs.Found.{conflicts_among, found};
+ghost use Rattle.upd_edit.specs.Warnings.{again_by, again_kind, before_kind, came_again, cards_between, comment_warnings, conflicts, deletion_warnings, empty_kind};
+ghost use Rattle.upd_edit.specs.Warnings.{insert_kind, last_entry, line_warnings, lines_of, off_by, off_kind, range_kind, read_warnings};
+ghost use Rattle.upd_edit.specs.Warnings.{restored_warnings, run_warnings, serial_since, text_kind, warning_list, wide_kind};
 
+use crate::meeting::Seen;
 use crate::near_words::near_word;
-use crate::range_warnings::{push_late, push_wide};
-use crate::warning_text::push_warning;
+use crate::warning::{Conflict, TakingWord, Warning, WarningKind, push};
 use crate::yank_warnings::push_taking;
-use itoa::Buffer;
 use std::alloc::{AllocError, Global};
 use upd_core::ident::name_at;
-use upd_core::{Card, Entry, Library, Live, Name, Serial};
+use upd_core::{Card, Entry, Library, Live, Name, Place, Serial};
 use upd_deck::{Item, Line, read_run};
 use upd_text::line::{is_comment, is_starred, word};
 use upd_text::{CardRef, Fault, FaultKind};
 
-/// The warnings of a run that is tried on a library, a line each, with LF. None where the run can't be read. Where an
-/// ident is given, each line has one that deletes an active card that came after it. IdentUnknown, at 0, where no held
-/// ident has its name.
-pub fn warning_lines(
+/// The most cards of a range that isn't wide.
+const NARROW: usize = 20;
+
+/// The warnings of a run that is tried on a library. None where the run can't be read. Where an ident is given, each line
+/// has one that meets an ident younger than it. IdentUnknown, at 0, where no held ident has its name.
+pub fn warning_list(
     alloc: Global,
     library: &Library,
     since: Option<Name>,
     run: &[u8],
-) -> Result<Vec<u8>, Fault>
-    ensures { GivesAt (λ text. text.items) result (warning_lines since run.now library.now) }
+) -> Result<Vec<Warning>, Fault>
+    ensures { GivesAt (λ list. list.items) result (warning_list since run.now library.now) }
 {
-    let since = serial_since(library, since)?;
-    lines_since(alloc, library, since, run)
+    let seen = serial_since(library, since)?;
+    warnings_since(alloc, library, seen, run)
+}
+
+/// Those of the warnings that are conflicts, where an ident is given. IdentUnknown, at 0, where no held ident has its name.
+pub fn conflicts(
+    alloc: Global,
+    library: &Library,
+    since: &Name,
+    run: &[u8],
+) -> Result<Vec<Warning>, Fault>
+    ensures { GivesAt (λ list. list.items) result (conflicts since.now run.now library.now) }
+{
+    let mut list = warning_list(alloc, library, Some(*since), run)?;
+    keep_conflicts(&mut list);
+    Ok(list)
+}
+
+/// Removes the warnings that aren't conflicts.
+fn keep_conflicts(list: &mut Vec<Warning>)
+    ensures { list.new.items ≡ conflicts_among list.old.items }
+{
+    list.retain(|warning| warning.kind.is_conflict());
 }
 
 /// The serial of the ident with a name, where one is given.
@@ -51,57 +74,58 @@ fn serial_since(library: &Library, since: Option<Name>) -> Result<Option<Serial>
 }
 
 /// The same, by the serial of the ident. The only error is NoMemory.
-fn lines_since(
+fn warnings_since(
     alloc: Global,
     library: &Library,
     since: Option<Serial>,
     run: &[u8],
-) -> Result<Vec<u8>, Fault>
-    ensures { GivesAt (λ text. text.items) result (Ok (read_warnings run.now (reading run.now) since library.now)) }
+) -> Result<Vec<Warning>, Fault>
+    ensures { GivesAt (λ list. list.items) result (Ok (read_warnings run.now (reading run.now) since library.now)) }
 {
-    let mut text = Vec::new(alloc);
+    let mut list = Vec::new(alloc);
     match read_run(alloc, run) {
         Ok(read) => {
-            push_comments(&mut text, run)?;
-            push_empty(&mut text, read.lines())?;
-            push_lines(
-                &mut text,
-                library,
-                &library.live_yanks()?,
-                since,
-                read.lines(),
-            )?;
-            Ok(text)
+            let live = library.live_yanks()?;
+            push_found(&mut list, library, &live, since, run, read.lines())?;
+            Ok(list)
         }
         Err(fault) => match fault.kind {
             FaultKind::NoMemory => Err(fault),
-            _ => Ok(text),
+            _ => Ok(list),
         },
     }
 }
 
-/// Appends the warning of the comments of a run.
-fn push_comments(text: &mut Vec<u8>, run: &[u8]) -> Result<(), AllocError>
-    ensures { OnOk result (text.new.items ≡ text.old.items ++ comment_warning run.now) }
+/// Appends the warnings of a run that was read.
+fn push_found(
+    list: &mut Vec<Warning>,
+    library: &Library,
+    live: &Live,
+    since: Option<Serial>,
+    run: &[u8],
+    lines: &[Line],
+) -> Result<(), AllocError>
+    requires { live.now ≡ live_of library.now }
+    ensures { OnOk result (list.new.items ≡ list.old.items ++ run_warnings run.now lines.now since library.now) }
 {
-    if let Some(first) = first_comment(run) {
-        push_dropped(text, comment_count(run), first)?;
-    }
-    Ok(())
+    push_comments(list, run)?;
+    push(list, 1, empty_kind(lines))?;
+    push(list, 1, again_kind(library, since))?;
+    push_lines(list, library, live, since, lines)
 }
 
-/// Appends the warning that a number of comments are dropped, by the index of the first.
-fn push_dropped(text: &mut Vec<u8>, count: usize, first: usize) -> Result<(), AllocError>
-    requires { first + 1 < 2 ^ 64 }
-    ensures { OnOk result (text.new.items ≡ text.old.items ++ dropped_warning count first) }
+/// Appends the warning of the comments of a run.
+fn push_comments(list: &mut Vec<Warning>, run: &[u8]) -> Result<(), AllocError>
+    ensures { OnOk result (list.new.items ≡ list.old.items ++ comment_warnings run.now) }
 {
-    let mut digits = Buffer::new();
-    let words: [&[u8]; 3] = [
-        b"dropped comments: ",
-        digits.format(count).as_bytes(),
-        b", the first here",
-    ];
-    push_warning(text, first + 1, &words)
+    match first_comment(run) {
+        Some(first) => push(
+            list,
+            first + 1,
+            Some(WarningKind::Comments(comment_count(run))),
+        ),
+        None => Ok(()),
+    }
 }
 
 /// The index of the first line of a run that is a comment.
@@ -122,136 +146,155 @@ fn comment_count(run: &[u8]) -> usize
         .count()
 }
 
-/// Appends the warning of a run with no lines.
-fn push_empty(text: &mut Vec<u8>, lines: &[Line]) -> Result<(), AllocError>
-    ensures { OnOk result (text.new.items ≡ text.old.items ++ empty_warning lines.now) }
+/// The warning of a run with no lines.
+fn empty_kind(lines: &[Line]) -> Option<WarningKind>
+    ensures { result ≡ empty_kind lines.now }
 {
     match lines {
-        [] => push_warning(text, 1, &[b"the run is empty: it changes nothing"]),
-        [_, ..] => Ok(()),
+        [] => Some(WarningKind::Empty),
+        [_, ..] => None,
     }
+}
+
+/// The warning of an ident whose name was held before by one that is purged.
+fn again_kind(library: &Library, since: Option<Serial>) -> Option<WarningKind>
+    ensures { result ≡ again_kind since library.now }
+{
+    again_by(library, name_of(library, since?))
+}
+
+/// The warning of a name that a purged ident has.
+fn again_by(library: &Library, since: Name) -> Option<WarningKind>
+    ensures { result ≡ again_by since library.now }
+{
+    if came_again(library, &since) {
+        Some(WarningKind::Conflict(Conflict::CameAgain { since }))
+    } else {
+        None
+    }
+}
+
+/// Whether a purged ident has a name.
+fn came_again(library: &Library, name: &Name) -> bool
+    ensures { result ≡ came_again name.now library.now }
+{
+    library
+        .idents()
+        .iter()
+        .any(|ident| !ident.held && ident.name == *name)
 }
 
 /// Appends the warnings of lines.
 fn push_lines(
-    text: &mut Vec<u8>,
+    list: &mut Vec<Warning>,
     library: &Library,
     live: &Live,
     since: Option<Serial>,
     lines: &[Line],
 ) -> Result<(), AllocError>
     requires { live.now ≡ live_of library.now }
-    ensures { OnOk result (text.new.items ≡ text.old.items ++ flat_map (line_warnings library.now since) lines.now) }
+    ensures { OnOk result (list.new.items ≡ list.old.items ++ flat_map (line_warnings library.now since) lines.now) }
 {
     for line in lines {
-        push_line(text, library, live, since, line)?;
+        push_line(list, library, live, since, line)?;
     }
     Ok(())
 }
 
 /// Appends the warnings of a line.
 fn push_line(
-    text: &mut Vec<u8>,
+    list: &mut Vec<Warning>,
     library: &Library,
     live: &Live,
     since: Option<Serial>,
     line: &Line,
 ) -> Result<(), AllocError>
     requires { live.now ≡ live_of library.now }
-    ensures { OnOk result (text.new.items ≡ text.old.items ++ line_warnings library.now since line.now) }
+    ensures { OnOk result (list.new.items ≡ list.old.items ++ line_warnings library.now since line.now) }
 {
     let number = line.number as usize;
     match &line.item {
-        Item::Text => push_text(text, number, line.text),
-        Item::Delete { first, last } => {
-            push_deletion(text, library, live, since, number, first, last)
-        }
-        Item::Restore { first, last } => push_wide(text, library, number, first, last),
-        Item::Yank(names) => push_taking(text, library, live, number, b"yank", names),
-        Item::Purge(names) => push_taking(text, library, live, number, b"purge", names),
+        Item::Text => push_text(list, number, line.text),
+        Item::Delete { first, last } => push_deletion(
+            list, library, live, since, number, first, last,
+        ),
+        Item::Restore { first, last } => push_restored(
+            list, library, live, since, number, first, last,
+        ),
+        Item::Insert(card) => push(list, number, insert_kind(library, live, since, card)),
+        Item::Before(card) => push(list, number, before_kind(library, live, since, card)),
+        Item::Yank(names) => push_taking(list, library, live, number, TakingWord::Yank, names),
+        Item::Purge(names) => push_taking(list, library, live, number, TakingWord::Purge, names),
         _ => Ok(()),
     }
 }
 
 /// Appends the warning of a text whose word may be meant for that of a directive.
-fn push_text(text: &mut Vec<u8>, number: usize, line: &[u8]) -> Result<(), AllocError>
-    ensures { OnOk result (text.new.items ≡ text.old.items ++ text_warning number line.now) }
+fn push_text(list: &mut Vec<Warning>, number: usize, line: &[u8]) -> Result<(), AllocError>
+    ensures { OnOk result (list.new.items ≡ list.old.items ++ found number (text_kind line.now)) }
 {
-    if !is_starred(line) {
-        return Ok(());
+    if is_starred(line) && near_word(*list.allocator(), word(line))?.is_some() {
+        push(list, number, Some(WarningKind::NearWord))
+    } else {
+        Ok(())
     }
-    if let Some(meant) = near_word(*text.allocator(), word(line))? {
-        push_meant(text, number, word(line), meant)?;
-    }
-    Ok(())
 }
 
-/// Appends the warning of a word that may be meant for another.
-fn push_meant(
-    text: &mut Vec<u8>,
-    number: usize,
-    word: &[u8],
-    meant: &[u8],
-) -> Result<(), AllocError>
-    ensures { OnOk result (text.new.items ≡ text.old.items ++ meant_warning number word.now meant.now) }
-{
-    push_warning(text, number, &[b"*", word, b" is text, not *", meant])
-}
-
-/// Appends the warnings of the ends of a range that are off already.
-fn push_ends(
-    text: &mut Vec<u8>,
+/// Appends the warnings of a range that is deleted.
+fn push_deletion(
+    list: &mut Vec<Warning>,
     library: &Library,
     live: &Live,
+    since: Option<Serial>,
     number: usize,
     first: &CardRef,
     last: &CardRef,
 ) -> Result<(), AllocError>
     requires { live.now ≡ live_of library.now }
-    ensures { OnOk result (text.new.items ≡ text.old.items ++ ends_warnings number first.now last.now library.now) }
+    ensures { OnOk result (list.new.items ≡ list.old.items ++ deletion_warnings library.now since number first.now last.now) }
 {
-    push_off(text, library, live, number, first)?;
+    push(list, number, off_kind(library, live, first))?;
     if first != last {
-        push_off(text, library, live, number, last)?;
+        push(list, number, off_kind(library, live, last))?;
     }
-    Ok(())
+    push(list, number, wide_kind(library, first, last))?;
+    push(
+        list,
+        number,
+        range_kind(library, live, since, first, last, true),
+    )
 }
 
-/// Appends the warning of a card that is off already.
-fn push_off(
-    text: &mut Vec<u8>,
+/// Appends the warnings of a range that is restored.
+fn push_restored(
+    list: &mut Vec<Warning>,
     library: &Library,
     live: &Live,
+    since: Option<Serial>,
     number: usize,
-    card: &CardRef,
+    first: &CardRef,
+    last: &CardRef,
 ) -> Result<(), AllocError>
     requires { live.now ≡ live_of library.now }
-    ensures { OnOk result (text.new.items ≡ text.old.items ++ off_warning number card.now library.now) }
+    ensures { OnOk result (list.new.items ≡ list.old.items ++ restored_warnings library.now since number first.now last.now) }
 {
-    if let Some(set) = off_by(library, live, card) {
-        push_off_by(text, number, card, &set)?;
-    }
-    Ok(())
+    push(list, number, wide_kind(library, first, last))?;
+    push(
+        list,
+        number,
+        range_kind(library, live, since, first, last, false),
+    )
 }
 
-/// Appends the warning of a card that an ident has switched off.
-fn push_off_by(
-    text: &mut Vec<u8>,
-    number: usize,
-    card: &CardRef,
-    set: &Name,
-) -> Result<(), AllocError>
-    ensures { OnOk result (text.new.items ≡ text.old.items ++ off_by_warning number card.now set.now) }
+/// The warning of a card that an ident has switched off.
+fn off_kind(library: &Library, live: &Live, card: &CardRef) -> Option<WarningKind>
+    requires { live.now ≡ live_of library.now }
+    ensures { result ≡ off_kind card.now library.now }
 {
-    let mut digits = Buffer::new();
-    let words: [&[u8]; 5] = [
-        card.name.as_bytes(),
-        b".",
-        digits.format(card.number).as_bytes(),
-        b" is off already, by ",
-        set.as_bytes(),
-    ];
-    push_warning(text, number, &words)
+    match off_by(library, live, card) {
+        Some(by) => Some(WarningKind::OffAlready { card: *card, by }),
+        None => None,
+    }
 }
 
 /// The name of the ident that switched a card off, if its last entry that counts does.
@@ -274,6 +317,16 @@ pub(crate) fn name_of(library: &Library, ident: Serial) -> Name
     name_at(library.idents(), ident).unwrap_or(Name::none())
 }
 
+/// The reference of a card.
+pub(crate) fn ref_of(library: &Library, card: &Card) -> CardRef
+    ensures { result ≡ ref_of library.now.idents card.now }
+{
+    CardRef {
+        name: name_of(library, card.ident),
+        number: card.number,
+    }
+}
+
 /// The last entry of a card of a deck that counts: of an ident that isn't taken there.
 fn last_entry(live: &Live, deck: Serial, card: &Card) -> Option<Entry>
     ensures { result ≡ last_entry live.now.targets deck card.now }
@@ -285,21 +338,84 @@ fn last_entry(live: &Live, deck: Serial, card: &Card) -> Option<Entry>
         .copied()
 }
 
-/// Appends the warnings of a range that is deleted.
-fn push_deletion(
-    text: &mut Vec<u8>,
+/// The warning of a wide range.
+fn wide_kind(library: &Library, first: &CardRef, last: &CardRef) -> Option<WarningKind>
+    ensures { result ≡ wide_kind first.now last.now library.now }
+{
+    let count = cards_between(library, library.card_at(*first), library.card_at(*last));
+    if count > NARROW {
+        Some(WarningKind::Wide(count))
+    } else {
+        None
+    }
+}
+
+/// The number of the cards from one place to another of a deck.
+fn cards_between(library: &Library, from: Option<Place>, to: Option<Place>) -> usize
+    ensures { result ≡ cards_between from to library.now }
+{
+    match (from, to) {
+        (Some(from), Some(to)) if from.deck == to.deck => library
+            .cards_of(from.deck)
+            .len()
+            .min(to.index.saturating_add(1))
+            .saturating_sub(from.index),
+        _ => 0,
+    }
+}
+
+/// The conflict of a range, where an ident is given.
+fn range_kind(
     library: &Library,
     live: &Live,
     since: Option<Serial>,
-    number: usize,
     first: &CardRef,
     last: &CardRef,
-) -> Result<(), AllocError>
+    deletes: bool,
+) -> Option<WarningKind>
     requires { live.now ≡ live_of library.now }
-    ensures { OnOk result (text.new.items ≡ text.old.items ++ deletion_warnings library.now since number first.now last.now) }
+    ensures { result ≡ range_kind library.now since first.now last.now deletes }
 {
-    push_ends(text, library, live, number, first, last)?;
-    push_wide(text, library, number, first, last)?;
-    let (from, to) = (library.card_at(*first), library.card_at(*last));
-    push_late(text, library, live, since, number, from, to)
+    let seen = Seen {
+        library,
+        live,
+        since: since?,
+    };
+    Some(WarningKind::Conflict(seen.range_conflict(first, last, deletes)?))
+}
+
+/// The conflict of an `*INSERT`, where an ident is given.
+fn insert_kind(
+    library: &Library,
+    live: &Live,
+    since: Option<Serial>,
+    card: &CardRef,
+) -> Option<WarningKind>
+    requires { live.now ≡ live_of library.now }
+    ensures { result ≡ insert_kind library.now since card.now }
+{
+    let seen = Seen {
+        library,
+        live,
+        since: since?,
+    };
+    Some(WarningKind::Conflict(seen.insert_conflict(card)?))
+}
+
+/// The conflict of a `*BEFORE`, where an ident is given.
+fn before_kind(
+    library: &Library,
+    live: &Live,
+    since: Option<Serial>,
+    card: &CardRef,
+) -> Option<WarningKind>
+    requires { live.now ≡ live_of library.now }
+    ensures { result ≡ before_kind library.now since card.now }
+{
+    let seen = Seen {
+        library,
+        live,
+        since: since?,
+    };
+    Some(WarningKind::Conflict(seen.before_conflict(card)?))
 }

@@ -5,16 +5,15 @@ ghost use Rattle.std.specs.List.{filter_map, find, flat_map, zip};
 ghost use Rattle.std.specs.Option.{option_copied, option_map};
 ghost use Rattle.upd_core.specs.Library.{name_of};
 ghost use Rattle.upd_core.specs.Status.{live_of};
-ghost use Rattle.upd_edit.specs.YankWarnings.{deck_after, deck_warning, deck_warnings, entry_warning, followed_warning, goes};
-ghost use Rattle.upd_edit.specs.YankWarnings.{is_followed, is_set, is_switched, neighbours_warning, serials_of, stays, staying_warning};
-ghost use Rattle.upd_edit.specs.YankWarnings.{switched_warning, taking_warnings, younger_entry};
+ghost use Rattle.upd_edit.specs.YankWarnings.{deck_after, deck_kind, deck_warning, deck_warnings, entry_kind, followed_kind, goes, is_followed};
+ghost use Rattle.upd_edit.specs.YankWarnings.{is_set, is_switched, serials_of, stays, switched_kind, taking_warnings, younger_entry};
+ghost use Rattle.upd_edit.specs.Found.{found};
 
-use crate::warning_text::push_warning;
-use itoa::Buffer;
+use crate::warning::{TakingWord, Warning, WarningKind, push};
+use crate::warnings::{name_of, ref_of};
 use std::alloc::{AllocError, Global};
 use std::marker::Model;
-use upd_core::ident::name_at;
-use upd_core::{Card, Deck, Entry, Ident, Library, Live, Name, Serial};
+use upd_core::{Card, Deck, Entry, Ident, Library, Live, Serial};
 use upd_deck::NameRange;
 
 /// The idents that a field names, by their serials, both ends included.
@@ -41,24 +40,23 @@ pub(crate) struct Taking<'a> {
     live: &'a Live<'a>,
     /// The number of its line.
     number: usize,
-    /// `yank` or `purge`.
-    word: &'a [u8],
+    word: TakingWord,
     ranges: &'a [Serials],
 }
 
 /// Appends the warnings of a yank or purge of names.
 pub(crate) fn push_taking(
-    text: &mut Vec<u8>,
+    list: &mut Vec<Warning>,
     library: &Library,
     live: &Live,
     number: usize,
-    word: &[u8],
+    word: TakingWord,
     names: &[NameRange],
 ) -> Result<(), AllocError>
     requires { live.now ≡ live_of library.now }
-    ensures { OnOk result (text.new.items ≡ text.old.items ++ taking_warnings number word.now library.now names.now) }
+    ensures { OnOk result (list.new.items ≡ list.old.items ++ taking_warnings number word library.now names.now) }
 {
-    let ranges = serials_named(*text.allocator(), library, names)?;
+    let ranges = serials_named(*list.allocator(), library, names)?;
     let taking = Taking {
         library,
         live,
@@ -66,8 +64,8 @@ pub(crate) fn push_taking(
         word,
         ranges: &ranges,
     };
-    taking.push_decks_after(text)?;
-    taking.push_decks(text)
+    taking.push_decks_after(list)?;
+    taking.push_decks(list)
 }
 
 /// The serials of ranges of names; those with a name that isn't held are left out.
@@ -108,13 +106,6 @@ impl<'a> Taking<'a> {
         ensures { result ≡ stays self.now.live.now.targets deck self.now.ranges.now z y }
     {
         z < y && !self.goes(y) && !self.live.is_taken(deck, y)
-    }
-
-    /// The name of an ident.
-    fn name_of(&self, z: Serial) -> Name
-        ensures { result ≡ name_of self.now.library.now.idents z }
-    {
-        name_at(self.library.idents(), z).unwrap_or(Name::none())
     }
 
     /// The first entry of a younger ident that stays.
@@ -186,111 +177,73 @@ impl<'a> Taking<'a> {
     }
 
     /// Appends the warnings of all decks.
-    fn push_decks(&self, text: &mut Vec<u8>) -> Result<(), AllocError>
+    fn push_decks(&self, list: &mut Vec<Warning>) -> Result<(), AllocError>
         requires { self.now.live.now ≡ live_of self.now.library.now }
-        ensures { OnOk result (text.new.items ≡ text.old.items ++ flat_map (deck_warnings self.now.number self.now.word.now
+        ensures { OnOk result (list.new.items ≡ list.old.items ++ flat_map (deck_warnings self.now.number self.now.word
             self.now.library.now self.now.ranges.now) self.now.library.now.decks) }
     {
         for deck in self.library.decks() {
-            self.push_switched(text, deck)?;
-            self.push_followed(text, deck)?;
+            push(list, self.number, self.switched_kind(deck))?;
+            push(list, self.number, self.followed_kind(deck))?;
         }
         Ok(())
     }
 
-    /// Appends the warning of the first card of a deck that goes and that a younger ident has switched.
-    fn push_switched(&self, text: &mut Vec<u8>, deck: &Deck) -> Result<(), AllocError>
+    /// The warning of the first card of a deck that goes and that a younger ident has switched.
+    fn switched_kind(&self, deck: &Deck) -> Option<WarningKind>
         requires { self.now.live.now ≡ live_of self.now.library.now }
-        ensures { OnOk result (text.new.items ≡ text.old.items ++ switched_warning self.now.number self.now.word.now
-            self.now.library.now self.now.ranges.now deck.now) }
+        ensures { result ≡ switched_kind self.now.word self.now.library.now self.now.ranges.now deck.now }
     {
-        if let Some(card) = self.switched_card(deck)
-            && let Some(entry) = self.younger_entry(deck.ident, card)
-        {
-            self.push_entry(text, card, &entry)?;
+        let card = self.switched_card(deck)?;
+        let entry = self.younger_entry(deck.ident, card)?;
+        Some(self.entry_kind(card, &entry))
+    }
+
+    /// The warning of a card that goes, by an entry.
+    fn entry_kind(&self, card: &Card, entry: &Entry) -> WarningKind
+        ensures { result ≡ entry_kind self.now.word self.now.library.now card.now entry.now }
+    {
+        WarningKind::TakesSwitched {
+            word: self.word,
+            card: ref_of(self.library, card),
+            by: name_of(self.library, entry.ident),
         }
-        Ok(())
     }
 
-    /// Appends the warning of a card that goes, by an entry.
-    fn push_entry(&self, text: &mut Vec<u8>, card: &Card, entry: &Entry) -> Result<(), AllocError>
-        ensures { OnOk result (text.new.items ≡ text.old.items
-            ++ entry_warning self.now.number self.now.word.now self.now.library.now card.now entry.now) }
-    {
-        let (set, name) = (self.name_of(entry.ident), self.name_of(card.ident));
-        let mut digits = Buffer::new();
-        let words: [&[u8]; 8] = [
-            set.as_bytes(),
-            b" switched ",
-            name.as_bytes(),
-            b".",
-            digits.format(card.number).as_bytes(),
-            b", which this ",
-            self.word,
-            b" takes",
-        ];
-        push_warning(text, self.number, &words)
-    }
-
-    /// Appends the warning of the first neighbours of a deck of which the first goes, and the second stays.
-    fn push_followed(&self, text: &mut Vec<u8>, deck: &Deck) -> Result<(), AllocError>
+    /// The warning of the first neighbours of a deck of which the first goes, and the second stays.
+    fn followed_kind(&self, deck: &Deck) -> Option<WarningKind>
         requires { self.now.live.now ≡ live_of self.now.library.now }
-        ensures { OnOk result (text.new.items ≡ text.old.items ++ followed_warning self.now.number self.now.word.now
-            self.now.library.now self.now.ranges.now deck.now) }
+        ensures { result ≡ followed_kind self.now.word self.now.library.now self.now.ranges.now deck.now }
     {
-        if let Some((card, next)) = self.followed_cards(deck) {
-            self.push_neighbours(text, card, next)?;
-        }
-        Ok(())
-    }
-
-    /// Appends the warning of two neighbours.
-    fn push_neighbours(
-        &self,
-        text: &mut Vec<u8>,
-        card: &Card,
-        next: &Card,
-    ) -> Result<(), AllocError>
-        ensures { OnOk result (text.new.items ≡ text.old.items
-            ++ neighbours_warning self.now.number self.now.word.now self.now.library.now (card.now, next.now)) }
-    {
-        let (set, name) = (self.name_of(next.ident), self.name_of(card.ident));
-        let (mut digits, mut more) = (Buffer::new(), Buffer::new());
-        let words: [&[u8]; 10] = [
-            set.as_bytes(),
-            b".",
-            digits.format(next.number).as_bytes(),
-            b" follows ",
-            name.as_bytes(),
-            b".",
-            more.format(card.number).as_bytes(),
-            b", which this ",
-            self.word,
-            b" takes",
-        ];
-        push_warning(text, self.number, &words)
+        let (card, next) = self.followed_cards(deck)?;
+        Some(WarningKind::TakesFollowed {
+            word: self.word,
+            card: ref_of(self.library, card),
+            next: ref_of(self.library, next),
+        })
     }
 
     /// Appends the warnings of decks that came after the idents that go.
-    fn push_decks_after(&self, text: &mut Vec<u8>) -> Result<(), AllocError>
-        ensures { OnOk result (text.new.items ≡ text.old.items ++ flat_map (deck_warning self.now.number self.now.word.now
+    fn push_decks_after(&self, list: &mut Vec<Warning>) -> Result<(), AllocError>
+        ensures { OnOk result (list.new.items ≡ list.old.items ++ flat_map (deck_warning self.now.number self.now.word
             self.now.library.now self.now.ranges.now) self.now.ranges.now) }
     {
         for range in self.ranges {
-            self.push_deck_after(text, range)?;
+            push(list, self.number, self.deck_kind(range))?;
         }
         Ok(())
     }
 
-    /// Appends the warning of a deck that came right after the last ident of a range, if it stays.
-    fn push_deck_after(&self, text: &mut Vec<u8>, range: &Serials) -> Result<(), AllocError>
-        ensures { OnOk result (text.new.items ≡ text.old.items ++ deck_warning self.now.number self.now.word.now
-            self.now.library.now self.now.ranges.now range.now) }
+    /// The warning of a deck that came right after the last ident of a range, if it stays.
+    fn deck_kind(&self, range: &Serials) -> Option<WarningKind>
+        ensures { result ≡ deck_kind self.now.word self.now.library.now self.now.ranges.now range.now }
     {
-        if let Some(deck) = self.deck_after(range) {
-            self.push_deck(text, &deck.name, range.to)?;
-        }
-        Ok(())
+        let deck = self.deck_after(range)?;
+        Some(WarningKind::DeckStays {
+            word: self.word,
+            last: name_of(self.library, range.to),
+            deck: deck.name,
+        })
     }
 
     /// Whether the ident with a serial is a set.
@@ -316,27 +269,5 @@ impl<'a> Taking<'a> {
         } else {
             None
         }
-    }
-
-    /// Appends the warning of a deck that came after an ident.
-    fn push_deck(&self, text: &mut Vec<u8>, deck: &Name, z: Serial) -> Result<(), AllocError>
-        ensures { OnOk result (text.new.items ≡ text.old.items
-            ++ staying_warning self.now.number self.now.word.now (name_of self.now.library.now.idents z) deck.now) }
-    {
-        let name = self.name_of(z);
-        let last = name.as_bytes();
-        let deck = deck.as_bytes();
-        let words: [&[u8]; 9] = [
-            deck,
-            b" came after ",
-            last,
-            b" and stays: ",
-            self.word,
-            b" ",
-            last,
-            b",",
-            deck,
-        ];
-        push_warning(text, self.number, &words)
     }
 }

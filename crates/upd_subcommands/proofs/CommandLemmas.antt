@@ -1,6 +1,6 @@
 -- A command that ended so, and is told so, has answered what is defined.
-use Rattle.upd_subcommands.proofs.Common.{◌≡◌, inl, inr, ℕ, List, [], Option, Result, Ok, Err, IsErrAnd, refl, ap, sym, ◌∙◌, subst, Appends-nil, Fault}
-use Rattle.upd_subcommands.proofs.Common.{FaultKind, Write, FileView, ending, exit_status, fault_line, no_memory}
+use Rattle.upd_subcommands.proofs.Common.{◌≡◌, inl, inr, ℕ, List, [], Option, Result, Ok, Err, IsErrAnd, refl, ap, sym, ◌∙◌, subst, Fault}
+use Rattle.upd_subcommands.proofs.Common.{FaultKind, Write, FileView, ending, fault_line}
 use Rattle.std.proofs.Common.{◌≢◌, Some, None, IsSomeAnd}
 use Rattle.std.specs.Io.KnownBytes.{Appends}
 use Rattle.upd_subcommands.specs.Command.{Answers, EndsTrial, IsEnd, LeavesOutput, answer_to}

@@ -1,7 +1,6 @@
 -- How commands fail.
-use Rattle.upd_subcommands.proofs.Common.{◌≡◌, ◌⊎◌, inl, inr, ℕ, List, Option, Result, Ok, Err, IsErrAnd, ap, sym, ◌∙◌, subst, arith, Fault, FaultKind}
+use Rattle.upd_subcommands.proofs.Common.{◌≡◌, ◌⊎◌, inl, inr, ℕ, List, Option, Result, Ok, Err, IsErrAnd, sym, ◌∙◌, subst, arith, Fault, FaultKind}
 use Rattle.upd_subcommands.proofs.Common.{NoMemory, Store, Read, Write, IsReported, exit_status, no_memory, read_failed}
-use Rattle.std.proofs.Common.{IfErr, IfOk}
 use Rattle.upd_subcommands.specs.DeskCommands.{IsUnread}
 
 -- an input that isn't read, where `?` passes on why

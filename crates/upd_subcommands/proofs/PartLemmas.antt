@@ -1,11 +1,10 @@
 -- Frames of runs, one after the other.
-use Rattle.upd_subcommands.proofs.Common.{◌≡◌, ℕ, ◌+◌, List, [], ◌∷◌, ◌++◌, length, refl, sym, ap, ◌∙◌, subst, arith, append_assoc, AllByRecursion, flat_map}
+use Rattle.upd_subcommands.proofs.Common.{◌≡◌, ℕ, ◌+◌, List, [], ◌∷◌, ◌++◌, length, refl, sym, ap, ◌∙◌, subst, arith, append_assoc, AllByRecursion}
 use Rattle.upd_subcommands.proofs.Common.{arrival_view, frame_text, frames_text, IsAdmitted, frames_from}
 use Rattle.std.proofs.Common.{suc, codes}
 use Rattle.std.proofs.lemmas.List.{flat_map_more}
 use Rattle.upd_deck.proofs.GrammarParts.{all_append}
 use Rattle.upd_text.specs.Units.{Bytes}
-use Rattle.upd_desk.specs.Arrivals.{ArrivalView}
 
 frames_more : (site : Bytes) (n : ℕ) (mode : Bytes) (runs : List Bytes) (run : Bytes)
     → frames_from site n mode (runs ++ run ∷ []) ≡ frames_from site n mode runs ++ arrival_view site (n + length runs) mode run ∷ []

@@ -1,5 +1,5 @@
 -- What is read of an input.
-use Rattle.upd_subcommands.proofs.Common.{◌≡◌, ℕ, ◌+◌, ◌⊎◌, ◌<◌, ◌≤◌, inl, inr, List, [], ◌++◌, Option, length, take, sym, ap, ◌∙◌, subst, append-nil, arith}
+use Rattle.upd_subcommands.proofs.Common.{◌≡◌, ℕ, ◌⊎◌, ◌<◌, ◌≤◌, inl, inr, List, [], ◌++◌, Option, length, take, sym, ap, ◌∙◌, subst, append-nil, arith}
 use Rattle.upd_subcommands.proofs.Common.{cases_lt, take_all, Fault, FaultKind, no_memory, read_failed, some_input}
 use Rattle.std.proofs.Math.Seq.{take-append_seam}
 use Rattle.std.proofs.KnownBytes.{Consumes-nil}

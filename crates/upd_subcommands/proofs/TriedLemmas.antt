@@ -1,12 +1,12 @@
 -- A run that was tried: its reply and its warnings, made one after the other.
-use Rattle.upd_subcommands.proofs.Common.{◌≡◌, ℕ, List, Option, Result, Ok, sym, subst, Fault, Ghosts, Keeps, Tells}
-use Rattle.upd_core.specs.Library.{LibraryView}
+use Rattle.upd_subcommands.proofs.Common.{ℕ, List, Option, Result, sym, subst, Fault, Ghosts, Keeps, Tells}
 use Rattle.upd_row_store.proofs.StoreLemmas.{keeps_keeps}
 use Rattle.upd_desk.specs.Holding.{HoldsIn, IsHeld}
 use Rattle.upd_desk.specs.Journal.{Journal}
 use Rattle.upd_desk.specs.Outcomes.{ReplyView, reply_on}
 use Rattle.upd_edit.specs.Trying.{tried}
-use Rattle.upd_edit.specs.Warnings.{warning_lines}
+use Rattle.upd_edit.specs.Warnings.{warning_list}
+use Rattle.upd_edit.specs.declared.warning.Warning.{Warning}
 use Rattle.upd_subcommands.specs.DeskCommands.{IsTriedAs}
 
 module _ {S : Type 0} (meaning : Ghosts S) where
@@ -17,9 +17,9 @@ module _ {S : Type 0} (meaning : Ghosts S) where
   held_still old mid keeps honest journal held = λ is.
       subst (HoldsIn shows journal) (sym (keeps.same honest is)) (held (keeps.later.was_open honest is))
 
-  pub tried_as : (mode : List ℕ) (since : Option (List ℕ)) (run : List ℕ) (answer : Result ReplyView Fault) (warnings : Result (List ℕ) Fault) (old mid new : S)
+  pub tried_as : (mode : List ℕ) (since : Option (List ℕ)) (run : List ℕ) (answer : Result ReplyView Fault) (warnings : Result (List Warning) Fault) (old mid new : S)
       → Tells meaning (reply_on (tried mode run)) answer old mid → Keeps meaning old mid
-      → Tells meaning (warning_lines since run) warnings mid new → Keeps meaning mid new
+      → Tells meaning (warning_list since run) warnings mid new → Keeps meaning mid new
       → IsTriedAs meaning mode since run answer warnings old new
   tried_as mode since run answer warnings old mid new replies first warns second = record {
     reply = λ honest journal held. replies (second.later.honest honest) journal held;

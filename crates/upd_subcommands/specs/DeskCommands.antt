@@ -1,10 +1,10 @@
 -- What commands do at a desk: what the desk answers, and how that is reported.
-use Rattle.std.specs.Prelude.{◌≡◌, ◌<◌, ◌≤◌, ◌⊎◌, ℕ, List, [], length, Option, Result, Ok, Err, IfErr, IfOk, OnOk, IsErrAnd, IsOkAnd}
+use Rattle.std.specs.Prelude.{◌≡◌, ◌≢◌, ◌<◌, ◌≤◌, ◌⊎◌, ℕ, List, [], length, Option, None, Some, Result, Ok, Err, IfErr, IfOk, OnOk, IsErrAnd, IsOkAnd}
 use Rattle.std.specs.Io.KnownBytes.{Appends}
 use Rattle.std.specs.Result.{result_map_both}
 use Rattle.upd_text.specs.Faults.{fault_at}
 use Rattle.upd_text.specs.declared.fault.Fault.{Fault}
-use Rattle.upd_text.specs.declared.fault.FaultKind.TheVariants.{RunLong}
+use Rattle.upd_text.specs.declared.fault.FaultKind.TheVariants.{IdentUnknown, RunLong}
 use Rattle.upd_core.specs.Library.{LibraryView}
 use Rattle.upd_row_store.specs.declared.meaning.Meaning.{Ghosts}
 use Rattle.upd_row_store.specs.Keeping.{CountsFailure, Keeps}
@@ -18,12 +18,14 @@ use Rattle.upd_subcommands.specs.Status.{no_memory, read_failed}
 use Rattle.upd_subcommands.specs.Streams.{IsRunOn, Stream, after, before}
 use Rattle.upd_subcommands.specs.Correcting.{ReportsCorrection}
 use Rattle.upd_subcommands.specs.Parts.{CorrectsParts}
-use Rattle.upd_subcommands.specs.Reporting.{ReportsMark, ReportsRun, ReportsText, ReportsTried}
+use Rattle.upd_subcommands.specs.Reporting.{ReportsConflicts, ReportsMark, ReportsRun, ReportsText, ReportsTried}
 use Rattle.upd_edit.specs.ActiveText.{active_text}
 use Rattle.upd_edit.specs.Earlier.{text_since}
 use Rattle.upd_edit.specs.Source.{source}
 use Rattle.upd_edit.specs.Trying.{tried}
-use Rattle.upd_edit.specs.Warnings.{warning_lines}
+use Rattle.upd_edit.specs.Conditions.{ArrivesSince}
+use Rattle.upd_edit.specs.Warnings.{warning_list}
+use Rattle.upd_edit.specs.declared.warning.Warning.{Warning}
 use Rattle.upd_edit.specs.declared.editing.TheConstants.{MAX_TEXT_BYTES}
 use Rattle.upd_edit.specs.EditCauses.{IsAnswerIn, IsEditCause, IsEditLoss, edited_in, failures_after_edit}
 use Rattle.upd_edit.specs.declared.editing.EditError.{EditError}
@@ -71,6 +73,21 @@ query_text (View view) l = view_text view l
 abbrev pub IsUnread : Result ℕ Fault → Type 0
 IsUnread result = IsErrAnd result (λ fault. (fault ≡ no_memory) ⊎ (fault ≡ read_failed))
 
+-- What was answered to a run with a condition was told: its reply, or its conflicts, or a fault; where no ident has SINCE's name, the caller tells it.
+abbrev pub TellsSince : Result (Result ReplyView (List Warning)) Fault → Result ℕ Fault
+    → Option (List ℕ) → Option (List ℕ) → Option (List ℕ) → Option (List ℕ) → Type 0
+TellsSince (Ok (Ok reply)) result output output' faults faults' = ReportsRun (Ok reply) result output output' × (faults' ≡ faults)
+TellsSince (Ok (Err met)) result output output' faults faults' = ReportsConflicts result faults faults' × (output' ≡ output)
+TellsSince (Err fault) result output output' faults faults' = (faults' ≡ faults)
+    × (((fault.kind ≢ IdentUnknown) × ReportsRun (Err fault) result output output')
+    ⊎ ((fault.kind ≡ IdentUnknown) × (result ≡ Err fault) × (output' ≡ output)))
+
+-- the texts of warnings: none where there are none; and memory for them may be out
+abbrev pub AreTexts : Result (List Warning) Fault → Result (List ℕ) Fault → Type 0
+AreTexts (Ok list) (Ok text) = list ≡ [] → text ≡ []
+AreTexts (Ok list) (Err fault) = fault ≡ no_memory
+AreTexts (Err fault) text = text ≡ Err fault
+
 module _ {S : Type 0} (meaning : Ghosts S) where
   -- The run on the input arrived, and its answer was told; or the input wasn't read, and nothing was asked or told.
   abbrev pub HandsIn : List ℕ → ℕ → List ℕ → Option (List ℕ) → Result ℕ Fault → S → S → Option (List ℕ) → Option (List ℕ) → Type 0
@@ -80,18 +97,27 @@ module _ {S : Type 0} (meaning : Ghosts S) where
       × CountsFailure meaning answer old new × ReportsRun answer result output output')
       ⊎ ((new ≡ old) × IsUnread result × Appends output output' [])
 
+  -- The run on the input arrived if nothing stopped it, and its answer was told; or the input wasn't read, and nothing was asked or told.
+  abbrev pub HandsInSince : List ℕ → List ℕ → ℕ → List ℕ → Option (List ℕ) → Result ℕ Fault → S → S
+      → Option (List ℕ) → Option (List ℕ) → Option (List ℕ) → Option (List ℕ) → Type 0
+  HandsInSince since site number mode input result old new output output' faults faults' =
+      ((bytes : List ℕ) × (answer : Result (Result ReplyView (List Warning)) Fault) × IsRunOn input bytes
+      × ArrivesSince meaning since (record { site = site; number = number; mode = mode; bytes = bytes }) answer old new
+      × CountsFailure meaning answer old new × TellsSince answer result output output' faults faults')
+      ⊎ ((new ≡ old) × IsUnread result × Appends output output' [])
+
   -- a run was tried: here are the reply that it would get and its warnings, and nothing is changed
-  pub record IsTriedAs (mode : List ℕ) (since : Option (List ℕ)) (run : List ℕ) (answer : Result ReplyView Fault) (warnings : Result (List ℕ) Fault)
+  pub record IsTriedAs (mode : List ℕ) (since : Option (List ℕ)) (run : List ℕ) (answer : Result ReplyView Fault) (warnings : Result (List Warning) Fault)
       (old new : S) : Type 0 where
     pub reply : Tells meaning (reply_on (tried mode run)) answer old new
-    pub warns : Tells meaning (warning_lines since run) warnings old new
+    pub warns : Tells meaning (warning_list since run) warnings old new
     pub same : Keeps meaning old new
 
   -- a run was tried, and its reply and its warnings were told
   abbrev pub TriesRun : List ℕ → Option (List ℕ) → List ℕ → S → S → Ending → Type 0
   TriesRun mode since run old new end =
-      (answer : Result ReplyView Fault) × (warnings : Result (List ℕ) Fault) × IsTriedAs mode since run answer warnings old new
-      × ReportsTried answer warnings end
+      (answer : Result ReplyView Fault) × (warnings : Result (List Warning) Fault) × IsTriedAs mode since run answer warnings old new
+      × ((text : Result (List ℕ) Fault) × AreTexts warnings text × ReportsTried answer text end)
 
   -- An edited text is answered by a run that leads decks of the library to it, or by what is wrong with it. A failure is a loss, or the text is too long.
   -- Nothing is changed.
@@ -147,8 +173,10 @@ module _ {S : Type 0} (meaning : Ghosts S) where
 
   -- a command was carried out at the desk of a library, over what was read first and streams, and what the desk answered was told
   abbrev pub Does : {R W E : Type 0} → Command → List ℕ → Result ℕ Fault → S → S → Stream R → Stream W → Stream E → Type 0
-  Does (Run site number mode) text ended old new input output faults =
+  Does (Run site number mode None) text ended old new input output faults =
       HandsIn site.now number mode.now (before input) ended old new (before output) (after output)
+  Does (Run site number mode (Some since)) text ended old new input output faults =
+      HandsInSince since site.now number mode.now (before input) ended old new (before output) (after output) (before faults) (after faults)
   Does (Settle site number) text ended old new input output faults = SettlesSite site.now number ended old new (before output) (after output)
   Does Spool text ended old new input output faults = EndsSpool ended old new (before input) (after input) (before output) (after output)
   Does (Serve endpoint count) text ended old new input output faults = EndsServing endpoint count ended old new (before faults) (after faults)

@@ -21,7 +21,7 @@ IsSpool _ = ⊥
 -- it hands runs in: it reads its input once the file is open
 abbrev pub HandsRuns : Command → Type 0
 HandsRuns Spool = Unit {0}
-HandsRuns (Run site number mode) = Unit {0}
+HandsRuns (Run site number mode since) = Unit {0}
 HandsRuns _ = ⊥
 
 -- it reads its input before the file is opened

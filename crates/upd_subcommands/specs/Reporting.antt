@@ -8,7 +8,7 @@ use Rattle.upd_text.specs.Keys.{is_site}
 use Rattle.upd_desk.specs.Outcomes.{ReplyView}
 use Rattle.upd_wire.specs.Fronts.{AppendsFront}
 use Rattle.upd_subcommands.specs.Command.{Ending, IsReported}
-use Rattle.upd_subcommands.specs.Status.{exit_status, fault_line, write_failed}
+use Rattle.upd_subcommands.specs.Status.{exit_status, fault_line, no_memory, write_failed}
 
 -- These bytes went to the output, and the command ends with this status; or the write failed, and at most a beginning of them is there.
 abbrev pub Writes : ℕ → List ℕ → Result ℕ Fault → Option (List ℕ) → Option (List ℕ) → Type 0
@@ -36,6 +36,11 @@ ReportsMark site (Err fault) result output output' = (result ≡ Err fault) × A
 abbrev pub ReportsText : Result (List ℕ) Fault → Result ℕ Fault → Option (List ℕ) → Option (List ℕ) → Type 0
 ReportsText (Ok text) result output output' = Writes 0 text result output output'
 ReportsText (Err fault) result output output' = (result ≡ Err fault) × Appends output output' []
+
+-- the conflicts of a run are reported by their lines, with status 1; or memory for these is out
+abbrev pub ReportsConflicts : Result ℕ Fault → Option (List ℕ) → Option (List ℕ) → Type 0
+ReportsConflicts (Ok status) faults faults' = (text : List ℕ) × IsReported 1 text status faults faults'
+ReportsConflicts (Err fault) faults faults' = (fault ≡ no_memory) × (faults' ≡ faults)
 
 -- the warnings of a run are reported behind its answer, with the status of that; or the fault by which there is no answer is reported by its line
 abbrev pub IsWarned : List ℕ → Result ℕ Fault → ℕ → Option (List ℕ) → Option (List ℕ) → Type 0

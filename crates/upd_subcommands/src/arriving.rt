@@ -1,10 +1,11 @@
 //! Commands that change a library: runs that arrive, and settlements.
 ghost use Rattle.std.specs.Prelude.{◌≡◌, ◌≢◌, ◌⊎◌, ◌+◌, ◌∷◌, ◌++◌, [], Err, IfErr, IfOk, Ok};
+ghost use Rattle.std.specs.Result.{result_map_both};
 ghost use Rattle.upd_subcommands.specs.Command.{IsReported, ending};
-ghost use Rattle.upd_subcommands.specs.DeskCommands.{HandsIn, SettlesSite, TriesRun};
+ghost use Rattle.upd_subcommands.specs.DeskCommands.{HandsIn, HandsInSince, SettlesSite, TellsSince, TriesRun};
 ghost use Rattle.upd_subcommands.specs.Status.{exit_status};
 ghost use Rattle.upd_subcommands.specs.Streams.{TakesFront};
-ghost use Rattle.upd_subcommands.specs.Reporting.{ReportsMark, ReportsRun, ReportsTried, Writes};
+ghost use Rattle.upd_subcommands.specs.Reporting.{ReportsConflicts, ReportsMark, ReportsRun, ReportsTried, Writes};
 ghost use Rattle.upd_text.specs.declared.limits.TheConstants.{MAX_RUN_BYTES};
 
 use crate::exit_status::{DONE, FAILED, REFUSED, finish};
@@ -13,9 +14,9 @@ use itoa::Buffer;
 use std::alloc::Global;
 use std::io::{Read, Write};
 use upd_desk::{Desk, Reply, fault_answer, settled_parts};
-use upd_edit::{try_at, warnings_at};
+use upd_edit::{Warning, arrive_since, try_at, warnings_at, write_warnings};
 use upd_row_store::RowStore;
-use upd_text::{Fault, Name};
+use upd_text::{Fault, FaultKind, Name};
 
 /// The run on the input arrives, and its reply goes to the output as a line. So does the text of a fault, except
 /// NoMemory and Store. Nothing is allocated between the reply and its output.
@@ -38,6 +39,69 @@ pub(crate) fn hand_in<S: RowStore, R: Read, W: Write>(
     write_answer(alloc, answer, output)
 }
 
+/// The same, where the run meets nothing that idents younger than SINCE have done. Else nothing is stored, and its
+/// conflicts go to the fault stream. IdentUnknown, at 0, where no held ident has SINCE's name.
+pub(crate) fn hand_in_since<S: RowStore, R: Read, W: Write, E: Write>(
+    alloc: Global,
+    desk: &mut Desk<S>,
+    since: &Name,
+    site: &str,
+    number: u64,
+    mode: &str,
+    input: &mut R,
+    output: &mut W,
+    faults: &mut E,
+) -> Result<u8, Fault>
+    ensures reports { HandsInSince S.Meaning since.now site.now number mode.now
+        (R.remaining input.old) result desk.old.store desk.new.store (W.contents output.old) (W.contents output.new)
+        (E.contents faults.old) (E.contents faults.new) }
+    ensures front { TakesFront (MAX_RUN_BYTES + 1) (R.remaining input.old) (R.remaining input.new) }
+    ensures status { IfOk result (λ status. (status ≡ 0) ⊎ ((status ≡ 1) ⊎ (status ≡ 3))) }
+    ensures clean { IfOk result (λ status. status ≡ 0 → faults.new ≡ faults.old) }
+    ensures quiet { IfErr result (λ _. faults.new ≡ faults.old) }
+{
+    let run = read_input(alloc, input)?;
+    let answer = arrive_since(alloc, desk, since, site, number, mode, &run);
+    tell_since(alloc, answer, &run, output, faults)
+}
+
+/// Writes the answer to a run with a condition. IdentUnknown is left to the caller.
+fn tell_since<W: Write, E: Write>(
+    alloc: Global,
+    answer: Result<Result<Reply, Vec<Warning>>, Fault>,
+    run: &[u8],
+    output: &mut W,
+    faults: &mut E,
+) -> Result<u8, Fault>
+    ensures reports { TellsSince (result_map_both (result_map_both (λ reply. reply) (λ met. met.items)) (λ fault. fault) answer)
+        result (W.contents output.old) (W.contents output.new) (E.contents faults.old) (E.contents faults.new) }
+    ensures status { IfOk result (λ status. (status ≡ 0) ⊎ ((status ≡ 1) ⊎ (status ≡ 3))) }
+    ensures clean { IfOk result (λ status. status ≡ 0 → faults.new ≡ faults.old) }
+    ensures quiet { IfErr result (λ _. faults.new ≡ faults.old) }
+{
+    match answer {
+        Ok(Ok(reply)) => write_reply(&reply, output),
+        Ok(Err(met)) => write_conflicts(alloc, run, &met, faults),
+        Err(fault) if fault.kind == FaultKind::IdentUnknown => Err(fault),
+        Err(fault) => write_refusal(alloc, fault, output),
+    }
+}
+
+/// Writes the conflicts of a run, and returns the exit status of a refusal, or of a write that failed.
+fn write_conflicts<E: Write>(
+    alloc: Global,
+    run: &[u8],
+    met: &[Warning],
+    faults: &mut E,
+) -> Result<u8, Fault>
+    ensures reports { ReportsConflicts result (E.contents faults.old) (E.contents faults.new) }
+    ensures status { IfOk result (λ status. (status ≡ 1) ⊎ (status ≡ 3)) }
+    ensures quiet { IfErr result (λ _. faults.new ≡ faults.old) }
+{
+    let text = write_warnings(alloc, run, met)?;
+    Ok(report_warnings(&text, REFUSED, faults))
+}
+
 /// The reply that a run would get goes to the output as a line, as `hand_in` writes it, and its warnings to the fault
 /// stream behind it. Both are made before either is written. Nothing is stored. Returns the exit status.
 pub(crate) fn try_run<S: RowStore, W: Write, E: Write>(
@@ -55,7 +119,10 @@ pub(crate) fn try_run<S: RowStore, W: Write, E: Write>(
 {
     let answer = try_at(alloc, desk, mode, run);
     match warnings_at(alloc, desk, since, run) {
-        Ok(warnings) => write_tried(alloc, answer, &warnings, output, faults),
+        Ok(list) => match write_warnings(alloc, run, &list) {
+            Ok(warnings) => write_tried(alloc, answer, &warnings, output, faults),
+            Err(error) => finish(Err(Fault::from(error)), faults),
+        },
         Err(fault) => finish(Err(fault), faults),
     }
 }
@@ -73,13 +140,13 @@ fn write_tried<W: Write, E: Write>(
     ensures status { result ≢ 2 }
 {
     match write_answer(alloc, answer, output) {
-        Ok(status) => write_warnings(warnings, status, faults),
+        Ok(status) => report_warnings(warnings, status, faults),
         Err(fault) => finish(Err(fault), faults),
     }
 }
 
 /// Writes warnings, if there are any, and returns the exit status: the given one, or that of a write that failed.
-fn write_warnings<E: Write>(warnings: &[u8], status: u8, faults: &mut E) -> u8
+fn report_warnings<E: Write>(warnings: &[u8], status: u8, faults: &mut E) -> u8
     ensures reported { IsReported status warnings.now result (E.contents faults.old) (E.contents faults.new) }
     ensures status { (result ≡ status) ⊎ (result ≡ 3) }
 {

@@ -9,7 +9,7 @@ ghost use Rattle.upd_subcommands.specs.Streams.{TakesFront, stream};
 ghost use Rattle.upd_text.specs.declared.fault.Fault.{Fault};
 ghost use Rattle.upd_text.specs.declared.limits.TheConstants.{MAX_RUN_BYTES};
 
-use crate::arriving::{hand_in, settle, try_run};
+use crate::arriving::{hand_in, hand_in_since, settle, try_run};
 use crate::correction_command::{correct_text, correct_text_since};
 use crate::exit_status::DONE;
 use crate::listening::{report_path, report_place};
@@ -73,9 +73,17 @@ pub fn carry_out_at<S: RowStore, R: Read, W: Write, E: Write>(
 {
     let alloc = rt.alloc();
     match command {
-        Command::Run { site, number, mode } => {
-            hand_in(alloc, desk, site, *number, mode, input, output)
-        }
+        Command::Run {
+            site,
+            number,
+            mode,
+            since,
+        } => match since {
+            None => hand_in(alloc, desk, site, *number, mode, input, output),
+            Some(since) => hand_in_since(
+                alloc, desk, since, site, *number, mode, input, output, faults,
+            ),
+        },
         Command::Settle { site, number } => settle(alloc, desk, site, *number, output),
         Command::Spool => read_spool(alloc, desk, input, output),
         Command::Serve { endpoint, count } => serve(rt, endpoint, *count, desk, faults),

@@ -2,7 +2,7 @@
 
 use std::fs::{DirBuilder, Permissions};
 use std::io::ErrorKind;
-use std::os::unix::fs::{DirBuilderExt, FileTypeExt, PermissionsExt};
+use std::os::unix::fs::{DirBuilderExt, FileTypeExt, MetadataExt, PermissionsExt};
 use std::os::unix::net::{UnixListener, UnixStream};
 use std::{fs, io};
 
@@ -37,15 +37,31 @@ fn is_refused(rt: &HostRuntime, path: &str) -> bool {
     }
 }
 
-/// Makes a socket in a folder of mode 0700, since others could connect before it has its mode.
+/// Makes a socket in a folder of mode 0700, since others could connect before it has its mode. Such a folder of the same
+/// user was left by a kill, and is removed first.
 fn make(rt: &HostRuntime, path: &str) -> io::Result<UnixListener> {
     let folder = format!(in rt.alloc(); "{path}.new")?;
     let made = format!(in rt.alloc(); "{path}.new/s")?;
+    if is_own_folder(rt, folder.as_str()) {
+        let _ = fs::remove_file(rt, made.as_str());
+        fs::remove_dir(rt, folder.as_str())?;
+    }
     DirBuilder::new().mode(0o700).create(rt, folder.as_str())?;
     let listener = bind_in(rt, made.as_str(), path);
     let _ = fs::remove_file(rt, made.as_str());
     let _ = fs::remove_dir(rt, folder.as_str());
     listener
+}
+
+/// Whether a path is a folder, and no link, of the user that runs this process.
+fn is_own_folder(rt: &HostRuntime, path: &str) -> bool {
+    match (
+        fs::symlink_metadata(rt, path),
+        fs::metadata(rt, "/proc/self"),
+    ) {
+        (Ok(found), Ok(own)) => found.is_dir() && found.uid() == own.uid(),
+        _ => false,
+    }
 }
 
 /// Makes a socket, gives it its mode, and then its name by a link, which replaces nothing.

@@ -68,6 +68,10 @@ upd_commands =
     )
     ∷ (codes "try", word_of (codes "FILE") ∷ word_of (codes "MODE") ∷ [])
     ∷ (codes "try-at", word_of (codes "FILE") ∷ word_of (codes "MODE") ∷ word_of (codes "SINCE") ∷ [])
+    ∷ (
+      codes "run-at",
+      word_of (codes "FILE") ∷ word_of (codes "SITE") ∷ word_of (codes "NUMBER") ∷ word_of (codes "MODE") ∷ word_of (codes "SINCE") ∷ [],
+    )
     ∷ (codes "source", word_of (codes "FILE") ∷ word_of (codes "DECK") ∷ [])
     ∷ (codes "runs", word_of (codes "FILE") ∷ [])
     ∷ (codes "sites", word_of (codes "FILE") ∷ [])
@@ -97,7 +101,8 @@ file_commands =
 -- those that use it for more than a text about the library, but for those that serve
 abbrev pub desk_commands : List Text
 desk_commands =
-    codes "run" ∷ codes "settle" ∷ codes "spool" ∷ codes "correct" ∷ codes "correct-at" ∷ codes "correct-parts" ∷ codes "try" ∷ codes "try-at" ∷ []
+    codes "run" ∷ codes "run-at" ∷ codes "settle" ∷ codes "spool" ∷ codes "correct" ∷ codes "correct-at" ∷ codes "correct-parts" ∷ codes "try"
+    ∷ codes "try-at" ∷ []
 
 -- the program before its first command; `clap` adds a command `help`
 abbrev pub upd_top : App
@@ -175,6 +180,11 @@ abbrev pub HasEndpoint : List Row → Endpoint → Type 0
 HasEndpoint rows (Address address) = IsSocketText (operand_in (codes "ADDRESS") rows) address
 HasEndpoint rows (Path path) = path.now ≡ operand_in (codes "PATH") rows
 
+-- the command that hands a run in, with an ident or without
+abbrev pub running_name : Option Text → Text
+running_name None = codes "run"
+running_name (Some since) = codes "run-at"
+
 -- the command that tries a run, with an ident or without
 abbrev pub trying_name : Option Text → Text
 trying_name None = codes "try"
@@ -187,7 +197,7 @@ HasSince rows (Some since) = name_read (operand_in (codes "SINCE") rows) ≡ Ok 
 
 -- the command's name, and its operands beside FILE
 abbrev pub command_name : Command → Text
-command_name (Run site number mode) = codes "run"
+command_name (Run site number mode since) = running_name since
 command_name (Settle site number) = codes "settle"
 command_name Spool = codes "spool"
 command_name (Serve endpoint count) = serving_name endpoint
@@ -198,8 +208,8 @@ command_name (Try mode since) = trying_name since
 command_name (Ask query) = query_name query
 
 abbrev pub HasOperands : List Row → Command → Type 0
-HasOperands rows (Run site number mode) = (site.now ≡ operand_in (codes "SITE") rows)
-    × (number_read (operand_in (codes "NUMBER") rows) ≡ Ok number) × (mode.now ≡ operand_in (codes "MODE") rows)
+HasOperands rows (Run site number mode since) = (site.now ≡ operand_in (codes "SITE") rows)
+    × (number_read (operand_in (codes "NUMBER") rows) ≡ Ok number) × (mode.now ≡ operand_in (codes "MODE") rows) × HasSince rows since
 HasOperands rows (Settle site number) =
     (site.now ≡ operand_in (codes "SITE") rows) × (number_read (operand_in (codes "NUMBER") rows) ≡ Ok number)
 HasOperands rows Spool = Unit {0}
@@ -253,10 +263,10 @@ IsNamed name (other ∷ others) = (name ≡ other) ⊎ IsNamed name others
 -- an operand of the command of this name is refused so
 abbrev pub IsRefused : Text × List Row → Fault → Type 0
 IsRefused (name, rows) fault =
-    (IsNamed name (codes "run" ∷ codes "settle" ∷ codes "correct-parts" ∷ []) × (number_read (operand_in (codes "NUMBER") rows) ≡ Err fault))
+    (IsNamed name (codes "run" ∷ codes "run-at" ∷ codes "settle" ∷ codes "correct-parts" ∷ []) × (number_read (operand_in (codes "NUMBER") rows) ≡ Err fault))
     ⊎ ((IsNamed name (codes "list" ∷ codes "blame" ∷ codes "text" ∷ codes "text-at" ∷ codes "source" ∷ [])
     × (name_read (operand_in (codes "DECK") rows) ≡ Err fault))
-    ⊎ ((IsNamed name (codes "text-at" ∷ codes "correct-at" ∷ codes "try-at" ∷ []) × (name_read (operand_in (codes "SINCE") rows) ≡ Err fault))
+    ⊎ ((IsNamed name (codes "run-at" ∷ codes "text-at" ∷ codes "correct-at" ∷ codes "try-at" ∷ []) × (name_read (operand_in (codes "SINCE") rows) ≡ Err fault))
     ⊎ (((name ≡ codes "show") × (name_read (operand_in (codes "IDENT") rows) ≡ Err fault))
     ⊎ ((name ≡ codes "history") × (card_read (operand_in (codes "CARD") rows) ≡ Err fault)))))
 

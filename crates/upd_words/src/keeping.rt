@@ -9,9 +9,9 @@ use clap::Command;
 use clap::builder::ValueParser;
 use std::alloc::{AllocError, Global};
 
-/// The program with its first twenty-six commands.
+/// The program with its first twenty-seven commands.
 pub(crate) fn seventh_commands<'a>(alloc: Global) -> Result<Command<'a>, AllocError>
-    ensures { IfOk result (λ c. app_of c ≡ app_with (take 26 upd_commands)) }
+    ensures { IfOk result (λ c. app_of c ≡ app_with (take 27 upd_commands)) }
 {
     const COPY: Operand = (
         "COPY",
@@ -24,9 +24,9 @@ pub(crate) fn seventh_commands<'a>(alloc: Global) -> Result<Command<'a>, AllocEr
     with_command(app, alloc, "backup", BACKUP, &[FILE, COPY])
 }
 
-/// The program with its first twenty-three commands.
+/// The program with its first twenty-four commands.
 fn sixth_commands<'a>(alloc: Global) -> Result<Command<'a>, AllocError>
-    ensures { IfOk result (λ c. app_of c ≡ app_with (take 23 upd_commands)) }
+    ensures { IfOk result (λ c. app_of c ≡ app_with (take 24 upd_commands)) }
 {
     const SET: Operand = (
         "SET",
@@ -40,6 +40,8 @@ fn sixth_commands<'a>(alloc: Global) -> Result<Command<'a>, AllocError>
     let app = with_command(app, alloc, "correct-parts", CORRECT_PARTS, &parts)?;
     let app = with_command(app, alloc, "try", TRY, &[FILE, MODE])?;
     let app = with_command(app, alloc, "try-at", TRY_AT, &[FILE, MODE, SINCE])?;
+    let operands = [FILE, SITE, NUMBER, MODE, SINCE];
+    let app = with_command(app, alloc, "run-at", RUN_AT, &operands)?;
     with_command(app, alloc, "source", SOURCE, &[FILE, DECK])
 }
 
@@ -120,11 +122,12 @@ Example, after `upd init library.db`:
 };
 
 const TRY_AT: Text = Text {
-    about: "Does what `try` does, and warns where the run deletes a card that came after SINCE",
+    about: "Does what `try` does, and warns where the run meets what others have done after SINCE",
     more: "\
 Reads and writes as `upd try` does. SINCE is the youngest ident that the author of the run has seen:
-of a site's stored runs the last name that `upd runs` has. Each line of the run that deletes active
-cards of later idents has a warning, with the first of them.
+of a site's stored runs the last name that `upd runs` has. Each line of the run has a warning, a
+conflict, that meets a later ident: where one has put in, switched or yanked a card that the line
+names, one of its range, or the next one beside these.
 
 Exit status: 0 the run would be accepted; 1 refused, or SINCE is not a name or no ident; 2 the command
 line can't be read; 3 out of memory, or the library, a read or a write failed.
@@ -132,6 +135,22 @@ line can't be read; 3 out of memory, or the library, a read or a write failed.
 Example, after `upd init library.db`:
   printf '*DECK A\\nONE\\n' | upd run library.db LYON 1 full
   printf '*IDENT B\\n*DELETE A.2\\n' | upd try-at library.db full A",
+};
+
+const RUN_AT: Text = Text {
+    about: "Does what `run` does, where no line of the run meets what others have done after SINCE",
+    more: "\
+Reads and writes as `upd run` does, if `upd try-at` would warn of no conflict: that a line meets an
+ident younger than SINCE. Else nothing is stored, the number stays free, and the conflicts are lines
+on standard error, as `upd try-at` writes them. A number that is stored gets its first reply,
+whatever came since.
+
+Exit status: 0 accepted; 1 refused, stopped by conflicts, or NUMBER or SINCE is not valid, or SINCE is
+no ident; 2 the command line can't be read; 3 out of memory, or the library, a read or a write failed.
+
+Example, after `upd init library.db`:
+  printf '*DECK A\\nONE\\n' | upd run library.db LYON 1 full
+  printf '*IDENT B\\n*DELETE A.2\\n' | upd run-at library.db LYON 2 full A",
 };
 
 const SOURCE: Text = Text {

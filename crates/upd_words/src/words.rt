@@ -65,6 +65,7 @@ pub enum Command<'a> {
         site: &'a str,
         number: u64,
         mode: &'a str,
+        since: Option<Name>,
     },
     Settle {
         site: &'a str,
@@ -190,9 +191,11 @@ fn read_desk_command<'a>(name: &str, operands: &ArgMatches<'a>) -> Result<Comman
                 site: word(operands, "SITE"),
                 number,
                 mode: word(operands, "MODE"),
+                since: None,
             }),
             Err(fault) => Err(fault),
         },
+        "run-at" => read_run_at(operands),
         "settle" => match number(operands) {
             Ok(number) => Ok(Command::Settle {
                 site: word(operands, "SITE"),
@@ -235,6 +238,26 @@ fn read_desk_command<'a>(name: &str, operands: &ArgMatches<'a>) -> Result<Comman
             Ok(query) => Ok(Command::Ask(query)),
             Err(fault) => Err(fault),
         },
+    }
+}
+
+/// What `run-at` asks for.
+fn read_run_at<'a>(operands: &ArgMatches<'a>) -> Result<Command<'a>, Fault>
+    ensures { IsRead (λ command. (codes "run-at" ≡ command_name command) × HasOperands (rows_of (found_of operands.now)) command)
+        (codes "run-at", rows_of (found_of operands.now)) result }
+{
+    let number = match number(operands) {
+        Ok(number) => number,
+        Err(fault) => return Err(fault),
+    };
+    match crate::operands::name(operands, "SINCE") {
+        Ok(since) => Ok(Command::Run {
+            site: word(operands, "SITE"),
+            number,
+            mode: word(operands, "MODE"),
+            since: Some(since),
+        }),
+        Err(fault) => Err(fault),
     }
 }
 

@@ -17,7 +17,7 @@ returns-in-Ok-correct-clause-clean g c =
 
 pub returns-in-Ok-clause-refused : goal.returns-in-Ok-clause-refused
 returns-in-Ok-clause-refused g c =
-    held_of g.S.Meaning (λ l. AreRefusals l c.args.set.now c.args.text.now c.in-Err-Refused.refusals.items) c.in-Ok.library
+    held_of g.S.Meaning (λ l. AreRefusals l l c.args.set.now c.args.text.now c.in-Err-Refused.refusals.items) c.in-Ok.library
     c.args.desk.now.store c.library.new.self.store c.in-Ok.ensures.library
     (λ made. subst (IsCause c.in-Ok.library c.args.set.now c.args.text.now) c.in-Err-Refused.field-0-is c.in-Err-Refused.ensures.refused)
 

@@ -1,9 +1,9 @@
 use Rattle.std.proofs.Common.{◌≡◌, arith, false, inl, length, nat_lt, Result}
 use Rattle.std.specs.Result.{result_map_both}
-use Rattle.upd_edit.proofs.Common.{sym, subst, LibraryView}
+use Rattle.upd_edit.proofs.Common.{sym, subst}
 use Rattle.upd_text.specs.declared.fault.Fault.{Fault}
 use Rattle.upd_edit.proofs.ToldLemmas.{fitting, held_of}
-use Rattle.upd_edit.specs.EditCauses.{IsAnswerIn, edited_in}
+use Rattle.upd_edit.specs.EditCauses.{EditBase, IsAnswerIn, edited_in}
 use Rattle.upd_edit.specs.declared.editing.TheConstants.{MAX_TEXT_BYTES}
 use Rattle.upd_core.proofs.Common.{nat_tests}
 use Rattle.upd_edit.proofs.editing.correct_since.Goals as goal
@@ -11,7 +11,7 @@ use Rattle.upd_edit.proofs.editing.correct_since.Goals as goal
 pub returns-in-Ok-clause-answer : goal.returns-in-Ok-clause-answer
 returns-in-Ok-clause-answer g c =
     let found = result_map_both (λ run. run.items) (λ error. error) c.corrected_since.result in
-    let IsRight : Result LibraryView Fault → Type 0 = λ library. IsAnswerIn library c.args.set.now c.args.text.now found in
+    let IsRight : Result EditBase Fault → Type 0 = λ base. IsAnswerIn base c.args.set.now c.args.text.now found in
     let short : nat_lt MAX_TEXT_BYTES (length c.args.text.now) ≡ false =
     grind (arith, nat_tests, c.if-text-gt-MAX_TEXT_BYTES.false) in
     held_of g.S.Meaning (λ l. IsRight (edited_in c.args.text.now c.args.since.now l)) c.in-Ok.library

@@ -1,4 +1,4 @@
-use Rattle.upd_subcommands.proofs.Common.{ℕ, List, Result, Ok, Err, sym, subst, Appends-nil, EditError, Failed, Refused, Global, Refusal, Vec, ending}
+use Rattle.upd_subcommands.proofs.Common.{ℕ, List, Result, Ok, Err, sym, subst, Appends-nil, EditError, Global, Refusal, Vec, ending}
 use Rattle.upd_subcommands.proofs.Common.{IsRefusedBy, ReportsCorrection}
 use Rattle.upd_subcommands.proofs.ReportingLemmas.{shown}
 use Rattle.upd_subcommands.proofs.correction_command.report_correction.Goals as goal

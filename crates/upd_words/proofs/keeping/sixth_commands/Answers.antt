@@ -9,4 +9,5 @@ returns c =
     let app3 = with_more c.in_ok-app-3.app c.in_ok-app-4.app _ app2 c.in_ok-app-4.ensures in
     let app4 = with_more c.in_ok-app-4.app c.in_ok-app-5.app _ app3 c.in_ok-app-5.ensures in
     let app5 = with_more c.in_ok-app-5.app c.in_ok-app-6.app _ app4 c.in_ok-app-6.ensures in
-    IfOk-weaker c.with_command-6.result _ _ (λ new adds. with_more c.in_ok-app-6.app new _ app5 adds) c.with_command-6.ensures
+    let app6 = with_more c.in_ok-app-6.app c.in_ok-app-7.app _ app5 c.in_ok-app-7.ensures in
+    IfOk-weaker c.with_command-7.result _ _ (λ new adds. with_more c.in_ok-app-7.app new _ app6 adds) c.with_command-7.ensures

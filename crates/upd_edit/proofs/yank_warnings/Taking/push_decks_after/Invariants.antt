@@ -4,5 +4,5 @@ use Rattle.upd_edit.proofs.yank_warnings.Taking.push_decks_after.Given as goal
 
 abbrev pub invariant-loop-range : goal.invariant-loop-range
 invariant-loop-range l =
-    l.text.items ++ flat_map (deck_warning l.self.number l.self.word.now l.self.library.now l.self.ranges.now) (drop l.range-index l.self.ranges.now)
-    ≡ l.initial.text.items ++ flat_map (deck_warning l.self.number l.self.word.now l.self.library.now l.self.ranges.now) l.self.ranges.now
+    l.list.items ++ flat_map (deck_warning l.self.number l.self.word l.self.library.now l.self.ranges.now) (drop l.range-index l.self.ranges.now)
+    ≡ l.initial.list.items ++ flat_map (deck_warning l.self.number l.self.word l.self.library.now l.self.ranges.now) l.self.ranges.now
