@@ -154,6 +154,7 @@ const ABOUT: &[(&str, &str)] = &[
     ("correct-parts", "Writes the spool of runs that correct"),
     ("try", "Writes the reply that the run"),
     ("try-at", "Does what `try` does, and warns"),
+    ("run-at", "Does what `run` does, where no line"),
     ("source", "Writes the compile file of one"),
     ("runs", "Lists the stored runs"),
     ("sites", "Lists the sites"),

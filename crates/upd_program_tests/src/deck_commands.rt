@@ -1,6 +1,6 @@
 //! How a deck is edited: its text, the run that corrects it, what the run would do, and its compile file.
-use crate::console::{accepts, answers, ask, library, remove};
-use crate::file_sessions::{Step, Wanted, session};
+use crate::console::{accepts, answers, answers_of, ask, library, remove};
+use crate::file_sessions::{NO_LIBRARY, Step, Wanted, session};
 use std::test::Fail;
 use upd_testkit::check::same;
 
@@ -123,13 +123,18 @@ fn a_spool_leads_decks_to_their_texts(rt: HostRuntime) -> Result<(), Fail> {
     const BAD_NUMBER: Wanted<'_> = (1, "", "upd: BadNumber (24) at 0\n");
     const BAD_SITE: Wanted<'_> = (1, "", "upd: BadSite (23) at 0\n");
     const BAD_WORD: Wanted<'_> = (1, "", "upd: BadMode (25) at 0\n");
-    const LONG_NAME: Wanted<'_> = (1, "", "BadName 0:0 the set's name is not a name\n");
+    const LONG_NAME: Wanted<'_> = (
+        1,
+        "",
+        "BadName 0:0 the name of the sets has at most 8 bytes, since a number follows it\n",
+    );
     const PARTS: &str = "correct-parts";
     const STEPS: &[Step<'_>] = &[
         FIRST,
         SECOND,
         Step::Answers(PARTS, &["T", "LYON", "0", "quick"], EDITED, BAD_NUMBER),
         Step::Answers(PARTS, &["T", "lyon", "3", "quick"], EDITED, BAD_SITE),
+        Step::Answers(PARTS, &["T", "lyon", "3", "quick"], "", BAD_SITE),
         Step::Answers(PARTS, &["T", "LYON", "3", "slow"], EDITED, BAD_WORD),
         Step::Answers(
             PARTS,
@@ -143,6 +148,37 @@ fn a_spool_leads_decks_to_their_texts(rt: HostRuntime) -> Result<(), Fail> {
         Step::Answers(PARTS, &["U", "LYON", "4", "quick"], EDITED, (0, "", "")),
     ];
     session(&rt, "parts", STEPS)
+}
+
+/// A run may have 65,536 bytes and the number 999,999,999: its frame has both.
+#[test]
+fn a_part_may_be_the_greatest(rt: HostRuntime) -> Result<(), Fail> {
+    let (alloc, file) = (rt.alloc(), library(&rt, "greatest")?);
+    let lines = format!(in alloc; "{}\n", "X".repeat(alloc, 80)?.as_str())?.repeat(alloc, 808)?;
+    let text = format!(in alloc; "*DECK B\n{lines}{}\n", "X".repeat(alloc, 69)?.as_str())?;
+    let frame = format!(in alloc; "RUN LYON 999999999 quick 65536\n*IDENT T1\n{text}\n")?;
+    let words = ["T", "LYON", "999999999", "quick"];
+    answers_of(&rt, &file, "correct-parts", &words, &text, (0, &frame, ""))?;
+    remove(&rt, &file)
+}
+
+/// Rows that can't be read are a failure of the store, whatever edit or question meets them.
+#[test]
+fn rows_that_cant_be_read_are_a_store_that_failed(rt: HostRuntime) -> Result<(), Fail> {
+    const STEPS: &[Step<'_>] = &[
+        FIRST,
+        Step::Changes("UPDATE cards SET deck = -1"),
+        Step::Answers(
+            "correct-parts",
+            &["T", "LYON", "3", "quick"],
+            EDITED,
+            NO_LIBRARY,
+        ),
+        Step::Answers("correct", &["T"], EDITED, NO_LIBRARY),
+        Step::Answers("list", &["A"], "", NO_LIBRARY),
+        Step::Answers("compile", &[], "", NO_LIBRARY),
+    ];
+    session(&rt, "unreadable", STEPS)
 }
 
 #[test]

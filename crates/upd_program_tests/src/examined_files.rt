@@ -3,6 +3,7 @@ use crate::console::{accepts, fresh, library, remove};
 use crate::file_sessions::{SILENT, Step, Wanted, session, session_without_file, take_all};
 use crate::site_commands::{NO_MARKS, SECOND_SCHEMA};
 use std::fs;
+use std::os::unix::fs::symlink;
 use std::test::Fail;
 use upd_keep::Situation;
 use upd_testkit::check::holds;
@@ -53,11 +54,23 @@ fn a_log_with_commits_is_reported_and_kept(rt: HostRuntime) -> Result<(), Fail> 
     session(&rt, "framed", STEPS)
 }
 
-/// Nothing is made at a path without a file, and a folder is named.
+/// The size is that of the file, and not of a link to it.
+#[test]
+fn a_library_is_examined_by_a_link(rt: HostRuntime) -> Result<(), Fail> {
+    let (file, link) = (library(&rt, "pointed-at")?, fresh(&rt, "pointer")?);
+    symlink(&rt, file.as_str(), link.as_str())?;
+    take_all(&rt, &link, &[Step::IsSound(EMPTY_LINE, false)])?;
+    fs::remove_file(&rt, link.as_str())?;
+    remove(&rt, &file)
+}
+
+/// Nothing is made at a path without a file, nor in a folder that is missing, and a folder is named.
 #[test]
 fn a_path_without_a_file_is_named(rt: HostRuntime) -> Result<(), Fail> {
     let file = fresh(&rt, "named")?;
     take_all(&rt, &file, &[Step::Is(Situation::NoFile)])?;
+    let below = format!(in rt.alloc(); "{file}/a.db")?;
+    take_all(&rt, &below, &[Step::Is(Situation::NoFile)])?;
     holds("no file is made", fs::metadata(&rt, file.as_str()).is_err())?;
     fs::create_dir(&rt, file.as_str())?;
     take_all(&rt, &file, &[Step::Is(Situation::Folder)])?;

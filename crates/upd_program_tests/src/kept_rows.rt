@@ -1,4 +1,4 @@
-//! What a command leaves in the tables of a library that has a stored refusal and a mark.
+//! What a command leaves in the tables of a library of two sites, with a stored refusal and marks.
 use crate::console::{ask_of, fresh, library, remove};
 use crate::file_sessions::{SILENT, Step, take_all};
 use crate::served_address::serves;
@@ -10,14 +10,16 @@ const REPLIES: &str =
 {\"compile\":\"\",\"idents\":[\"X\"],\"lines\":0,\"mode\":\"quick\",\"run\":2,\"site\":\"LYON\",\
 \"state\":\"accepted\"}\n\
 {\"at\":1,\"fault\":9,\"mode\":\"full\",\"name\":\"TextNowhere\",\"run\":4,\"site\":\"LYON\",\
-\"state\":\"refused\"}\n";
+\"state\":\"refused\"}\n\
+{\"compile\":\"\",\"idents\":[],\"lines\":0,\"mode\":\"quick\",\"run\":7,\"site\":\"OSLO\",\
+\"state\":\"accepted\"}\n";
 
-/// Two runs are accepted, and one is refused.
+/// Three runs of two sites are accepted, and one is refused.
 const SENT: Step<'static> = Step::Answers(
     "spool",
     &[],
     "RUN LYON 1 quick 22\n*DECK A\nONE\nTWO\nTHREE\n\nRUN LYON 2 quick 25\n*IDENT X\n*DELETE A.2\nBEE\n\n\
-RUN LYON 4 full 6\nHELLO\n\n",
+RUN LYON 4 full 6\nHELLO\n\nRUN OSLO 7 quick 0\n\n",
     (0, REPLIES, ""),
 );
 
@@ -25,6 +27,13 @@ const SETTLED: Step<'static> = Step::Writes(
     "settle",
     &["LYON", "1"],
     "{\"settled\":1,\"site\":\"LYON\"}\n",
+);
+
+/// The other site settles runs that never came; its run 7 stays stored.
+const OSLO_SETTLED: Step<'static> = Step::Writes(
+    "settle",
+    &["OSLO", "3"],
+    "{\"settled\":3,\"site\":\"OSLO\"}\n",
 );
 
 const REPLY: &str =
@@ -54,7 +63,9 @@ runs|LYON|3|1|*IDENT Y\n*YANK X\n|1|{\"compile\":\"\",\"idents\":[\"Y\"],\"lines
 \"run\":3,\"site\":\"LYON\",\"state\":\"accepted\"}\n\
 runs|LYON|4|0|HELLO\n|0|{\"at\":1,\"fault\":9,\"mode\":\"full\",\"name\":\"TextNowhere\",\"run\":4,\
 \"site\":\"LYON\",\"state\":\"refused\"}\n\
-settled|LYON|1\n\
+runs|OSLO|7|1||1|{\"compile\":\"\",\"idents\":[],\"lines\":0,\"mode\":\"quick\",\"run\":7,\
+\"site\":\"OSLO\",\"state\":\"accepted\"}\n\
+settled|LYON|1\nsettled|OSLO|3\n\
 states|A|1|1\nstates|A|2|1\nstates|A|3|1\nstates|A|4|1\nstates|X|1|0\nstates|Y|1|1\n\
 targets|Y|1|0|0|2|0\n",
 );
@@ -62,7 +73,7 @@ targets|Y|1|0|0|2|0\n",
 /// All steps, after those runs, are as they say, and the library has the rows then.
 fn keeps_rows(rt: &HostRuntime, name: &str, steps: &[Step<'_>]) -> Result<(), Fail> {
     let file = library(rt, name)?;
-    take_all(rt, &file, &[SENT, SETTLED])?;
+    take_all(rt, &file, &[SENT, SETTLED, OSLO_SETTLED])?;
     take_all(rt, &file, steps)?;
     take_all(rt, &file, &[ROWS])?;
     remove(rt, &file)
@@ -70,7 +81,7 @@ fn keeps_rows(rt: &HostRuntime, name: &str, steps: &[Step<'_>]) -> Result<(), Fa
 
 #[test]
 fn an_examination_changes_no_row(rt: HostRuntime) -> Result<(), Fail> {
-    const SOUND: &str = "sound: decks 1, cards 6, runs 3, replies 283";
+    const SOUND: &str = "sound: decks 1, cards 6, runs 4, replies 375";
     keeps_rows(&rt, "examined", &[YANKED, Step::Examines(SOUND)])
 }
 
@@ -95,6 +106,8 @@ const ASKED: &[(&str, &[&str])] = &[
     ("show", &["X"]),
     ("source", &["A"]),
     ("idents", &[]),
+    ("yanks", &[]),
+    ("page", &[]),
     ("runs", &[]),
     ("sites", &[]),
     ("replay", &[]),
@@ -106,7 +119,7 @@ const ASKED: &[(&str, &[&str])] = &[
 #[test]
 fn questions_and_refusals_change_no_row(rt: HostRuntime) -> Result<(), Fail> {
     let file = library(&rt, "asked")?;
-    take_all(&rt, &file, &[SENT, SETTLED, YANKED])?;
+    take_all(&rt, &file, &[SENT, SETTLED, OSLO_SETTLED, YANKED])?;
     for (name, words) in ASKED {
         ask_of(&rt, &file, name, words, "*DECK A\nTWO\n")?;
     }
@@ -116,14 +129,20 @@ fn questions_and_refusals_change_no_row(rt: HostRuntime) -> Result<(), Fail> {
 
 const MIGRATED: Step<'static> = Step::Answers("migrate", &[], "", SILENT);
 
-/// The mark is lost with its table, and is set again.
+/// The marks are lost with their table, and are set again.
 #[test]
 fn a_migration_from_the_second_schema_keeps_all_rows(rt: HostRuntime) -> Result<(), Fail> {
     const SECOND: &str = "DROP TABLE settled; UPDATE meta SET v = 2";
     keeps_rows(
         &rt,
         "from-2",
-        &[YANKED, Step::Changes(SECOND), MIGRATED, SETTLED],
+        &[
+            YANKED,
+            Step::Changes(SECOND),
+            MIGRATED,
+            SETTLED,
+            OSLO_SETTLED,
+        ],
     )
 }
 
@@ -134,7 +153,13 @@ fn a_migration_from_the_first_schema_keeps_all_rows(rt: HostRuntime) -> Result<(
     keeps_rows(
         &rt,
         "from-1",
-        &[YANKED, Step::Changes(FIRST), MIGRATED, SETTLED],
+        &[
+            YANKED,
+            Step::Changes(FIRST),
+            MIGRATED,
+            SETTLED,
+            OSLO_SETTLED,
+        ],
     )
 }
 
@@ -161,7 +186,7 @@ fn a_run_over_http_is_in_the_file_afterwards(rt: HostRuntime) -> Result<(), Fail
         "HTTP/1.1 200 OK\r\nContent-Type: application/json\r\nContent-Length: 95\r\nConnection: close\r\n\r\n\
 {\"compile\":\"\",\"idents\":[\"Y\"],\"lines\":0,\"mode\":\"quick\",\"run\":3,\"site\":\"LYON\",\"state\":\"accepted\"}";
     let file = library(&rt, "posted")?;
-    take_all(&rt, &file, &[SENT, SETTLED])?;
+    take_all(&rt, &file, &[SENT, SETTLED, OSLO_SETTLED])?;
     serves(&rt, &file, POST, ANSWER)?;
     take_all(&rt, &file, &[ROWS, YANKED])?;
     remove(&rt, &file)

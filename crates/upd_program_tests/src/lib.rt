@@ -6,6 +6,8 @@
 #[cfg(test)]
 mod command_streams;
 #[cfg(test)]
+mod conditional_runs;
+#[cfg(test)]
 mod console;
 #[cfg(test)]
 mod deck_commands;

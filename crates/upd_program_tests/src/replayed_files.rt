@@ -1,5 +1,5 @@
 //! What `replay` answers of libraries as runs have left them, and of such that were changed by hand.
-use crate::console::{ask, library, remove};
+use crate::console::{accepts, ask, library, remove};
 use crate::file_changes::change;
 use crate::file_sessions::{Step, session, take_all};
 use std::fs;
@@ -36,6 +36,28 @@ fn runs_are_replayed_in_the_order_of_their_arrival(rt: HostRuntime) -> Result<()
 fn an_empty_library_is_replayed(rt: HostRuntime) -> Result<(), Fail> {
     const NONE: Step<'_> = Step::Writes("replay", &[], "replayed: runs 0\n");
     session(&rt, "none-replayed", &[NONE])
+}
+
+/// Sets S1 to S120, and a set that yanks each of them by a line of its own: 120 counted targets.
+fn yanked_sets(rt: &HostRuntime) -> Result<String, Fail> {
+    let mut run = String::new(rt.alloc());
+    for number in 1..=120_u32 {
+        write!(run, "*IDENT S{number}\n")?;
+    }
+    run.push_str("*IDENT Y\n")?;
+    for number in 1..=120_u32 {
+        write!(run, "*YANK S{number}\n")?;
+    }
+    Ok(run)
+}
+
+#[test]
+fn a_library_of_120_counts_is_replayed(rt: HostRuntime) -> Result<(), Fail> {
+    const ONE: Step<'_> = Step::Writes("replay", &[], "replayed: runs 1\n");
+    let file = library(&rt, "counts-replayed")?;
+    accepts(&rt, &file, "1", "quick", &yanked_sets(&rt)?)?;
+    take_all(&rt, &file, &[ONE])?;
+    remove(&rt, &file)
 }
 
 #[test]

@@ -167,12 +167,31 @@ fn is_served_at(rt: &HostRuntime, file: &str, path: &str) -> Result<(), Fail> {
     holds("no folder", !fs::exists(rt, folder.as_str())?)
 }
 
-/// The socket that a server has left is replaced by the next one's.
+/// What a server leaves that is killed while it makes its socket.
+fn leave_folder(rt: &HostRuntime, path: &str) -> Result<(), Fail> {
+    let folder = format!(in rt.alloc(); "{path}.new")?;
+    let made = format!(in rt.alloc(); "{path}.new/s")?;
+    fs::create_dir(rt, folder.as_str())?;
+    Ok(fs::write(rt, made.as_str(), b"")?)
+}
+
+/// The socket that a server has left is replaced by the next one's, and so is the folder of one that was killed.
 #[test]
 fn a_socket_is_for_its_owner(rt: HostRuntime) -> Result<(), Fail> {
     let file = library(&rt, "local")?;
     let path = format!(in rt.alloc(); "{file}.socket")?;
     is_served_at(&rt, &file, &path)?;
+    leave_folder(&rt, &path)?;
+    is_served_at(&rt, &file, &path)?;
+    fs::remove_file(&rt, path.as_str())?;
+    remove(&rt, &file)
+}
+
+#[test]
+fn a_path_of_100_bytes_is_served(rt: HostRuntime) -> Result<(), Fail> {
+    let file = library(&rt, "long-path")?;
+    let rest = "x".repeat(rt.alloc(), 100_usize.saturating_sub(file.len()))?;
+    let path = format!(in rt.alloc(); "{file}{rest}")?;
     is_served_at(&rt, &file, &path)?;
     fs::remove_file(&rt, path.as_str())?;
     remove(&rt, &file)

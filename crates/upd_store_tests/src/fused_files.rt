@@ -41,7 +41,7 @@ impl Bytes {
     }
 
     /// Files of these bytes whose log and database file fail after these numbers of calls.
-    fn files(&self, alloc: Global, (log, db): (u64, u64)) -> Result<Files<Fused>, Fail> {
+    pub fn files(&self, alloc: Global, (log, db): (u64, u64)) -> Result<Files<Fused>, Fail> {
         Ok(Files {
             log: file_of(alloc, &self.log, log)?,
             db: file_of(alloc, &self.db, db)?,

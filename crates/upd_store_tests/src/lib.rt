@@ -1,8 +1,8 @@
 //! Tests of the desk and of its stores. Over lists and over SQLite: worked lists of runs, random lists beside the reference
 //! desk, the decks that it reads, row changes, status updates at the limits of a library, commits that fail, and a store
 //! with its rows in memory beside the plain one. In SQLite: rows that another connection reads again, a crash at each call
-//! of the disk, files of the older schemas, and random lists whose tables are compared row by row. Those of `surface_desk`
-//! and `surface_wire` make each public call of stores, the desk and its wire once, by its path.
+//! of the disk, files of the older schemas, one open for both stores, and random lists whose tables are compared row by
+//! row. Those of `surface_desk` and `surface_wire` make each public call of stores, the desk and its wire once, by its path.
 //!
 //! Expected values are worked by hand from `docs/rules.md` and `docs/protocol.md`, or come from the reference desk.
 #![tactic(auto)]
@@ -26,6 +26,8 @@ mod migration_crashes;
 #[cfg(test)]
 mod older_files;
 #[cfg(test)]
+mod once_opened;
+#[cfg(test)]
 mod random_lists;
 #[cfg(test)]
 mod refused_directives;
@@ -39,6 +41,8 @@ mod surface_desk;
 mod surface_wire;
 #[cfg(test)]
 mod table_rows;
+#[cfg(test)]
+mod tree_answers;
 #[cfg(test)]
 mod worked_lists;
 #[cfg(test)]

@@ -119,7 +119,7 @@ fn random_sent<'a>(dice: &mut Dice, number: u32, text: &'a str) -> Sent<'a> {
 }
 
 /// An arrival, a settlement or something bad.
-fn random_step<S: RowStore>(
+pub fn random_step<S: RowStore>(
     session: &mut Session<S>,
     dice: &mut Dice,
     list: u32,
@@ -151,7 +151,7 @@ fn compared<S: Tried>(session: Session<S>, dice: &mut Dice) -> Result<(Session<S
 }
 
 /// A desk after run 1 of the site BASE, which introduces the decks.
-fn after_decks<S: Fresh>(alloc: Global, decks: &str) -> Result<Session<S>, Fail> {
+pub fn after_decks<S: Fresh>(alloc: Global, decks: &str) -> Result<Session<S>, Fail> {
     let mut session = fresh_session::<S>(alloc)?;
     let base = Sent {
         site: "BASE",

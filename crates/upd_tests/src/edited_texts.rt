@@ -61,6 +61,14 @@ const LONG: &[&[Part<'_>]] = &[
     ],
 ];
 
+/// Deck A, and sets: as many idents as a library holds.
+const FULL: &[&[Part<'_>]] = &[
+    &[Part::Text("*DECK A\nONE")],
+    &[Part::Idents(1, 2000)],
+    &[Part::Idents(2001, 4000)],
+    &[Part::Idents(4001, 4095)],
+];
+
 /// The runs of a library, a set, an edited text, and the run for it, or why the text is refused.
 type Edit = (
     &'static [&'static [Part<'static>]],
@@ -144,6 +152,8 @@ const EDITS: &[Edit] = &[
         &[Part::Text("*DECK A\n2000 x L")],
         "0:0 TooManyLines\n",
     ),
+    // The library has no room for another set.
+    (FULL, "Z", &[Part::Text("*DECK A\nTWO")], "0:0 Full\n"),
 ];
 
 /// What comes of an edit is this.

@@ -10,6 +10,8 @@ mod asked_library;
 #[cfg(test)]
 mod common_deck_runs;
 #[cfg(test)]
+mod conflicts;
+#[cfg(test)]
 mod correction_runs;
 #[cfg(test)]
 mod edited_texts;
@@ -17,6 +19,10 @@ mod edited_texts;
 mod examined_rows;
 #[cfg(test)]
 mod examined_tables;
+#[cfg(test)]
+mod explained_faults;
+#[cfg(test)]
+mod great_texts;
 #[cfg(test)]
 mod library_limits;
 #[cfg(test)]

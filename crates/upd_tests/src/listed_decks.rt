@@ -1,12 +1,13 @@
 //! Runs that are made from listings.
 
-use crate::edited_texts::{changed_lines, deck_text, run_for};
+use crate::edited_texts::{changed_lines, deck_text};
 use std::alloc::Global;
 use std::test::Fail;
 use upd_compile::list_deck;
 use upd_core::Library;
 use upd_correct::correct_listed;
-use upd_testkit::applying::{after, name};
+use upd_edit::active_text;
+use upd_testkit::applying::{after, applied, name};
 use upd_testkit::check::same_text;
 use upd_testkit::random_runs::Dice;
 
@@ -31,6 +32,12 @@ const EDITS: &[(&str, &str, &str)] = &[
         "COMDECK C NOPROP\nA C.1 *COMDECK C\n",
         "*COMDECK C\nONE\n",
         "*IDENT Z\n*INSERT C.1\nONE\n",
+    ),
+    // Each card that goes is named alone.
+    (
+        LISTING,
+        "*DECK A\nTHREE\n",
+        "*IDENT Z\n*DELETE A.2\n*DELETE X.1\n*DELETE Y.1\n",
     ),
     ("DECK A", "*DECK A\n", "NotListing(1)"),
     ("DECK a\n", "*DECK A\n", "NotListing(1)"),
@@ -95,10 +102,14 @@ const RUNS: &[&str] = &[
 
 const LINES: &[u8] = b"QRABCPDEFG";
 
-/// The listing gives the run that the library gives.
-fn runs_agree(library: &Library, listing: &[u8], edited: &str) -> Result<(), Fail> {
-    let wanted = run_for(library.allocator(), library, "Z", edited)?;
-    gives(library.allocator(), listing, edited, wanted.as_str())
+/// The run that the listing gives leads the library to the edited text.
+fn leads_to(library: &Library, listing: &[u8], edited: &str) -> Result<(), Fail> {
+    let alloc = library.allocator();
+    let run = listed_run(alloc, listing, edited)?;
+    let mut library = after(alloc, RUNS)?;
+    applied(&mut library, run.as_str())?;
+    let found = active_text(alloc, &library, &name("A")?)?;
+    same_text("deck A", std::str::from_utf8(&found)?, edited)
 }
 
 /// 60 random edits of deck A.
@@ -107,12 +118,12 @@ fn edits_agree(library: &Library, dice: &mut Dice) -> Result<(), Fail> {
     let listing = list_deck(alloc, library, &name("A")?)?;
     for _ in 0..60 {
         let lines = changed_lines(alloc, LINES, dice)?;
-        runs_agree(library, &listing, deck_text(alloc, &lines)?.as_str())?;
+        leads_to(library, &listing, deck_text(alloc, &lines)?.as_str())?;
     }
     Ok(())
 }
 
 #[test]
-fn random_edits_give_the_run_that_the_library_gives(rt: HostRuntime) -> Result<(), Fail> {
+fn random_edits_of_a_listing_lead_the_library_to_their_texts(rt: HostRuntime) -> Result<(), Fail> {
     edits_agree(&after(rt.alloc(), RUNS)?, &mut Dice(11))
 }

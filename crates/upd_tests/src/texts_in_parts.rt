@@ -8,7 +8,7 @@ use upd_core::Library;
 use upd_correct::correct_parts;
 use upd_edit::active_text;
 use upd_testkit::applying::{applied, name};
-use upd_testkit::check::{same, same_text};
+use upd_testkit::check::{holds, same, same_text};
 
 /// Deck A of 3,000 cards: its first, 1,999 of its own and 1,000 of X. And deck B.
 const LONG: &[&[Part<'_>]] = &[
@@ -25,6 +25,16 @@ const EDITS: &[(&[&str], &str, &[&str])] = &[
         &[
             "*IDENT Z1\n*INSERT A.1\n1997 x NEW",
             "*IDENT Z2\n*INSERT Z1.1997\n503 x NEW\n*DELETE A.501,X.1000",
+        ],
+    ),
+    // 1,500 lines of 70 letters are two runs: beside 921 of them the first has two directives, for which 96 bytes are
+    // reserved, and one that would be continued, with 48 more. With another line they would be 65,606 bytes.
+    (
+        &["A"],
+        "*DECK A\n1500 x LLLLLLLLLLLLLLLLLLLLLLLLLLLLLLLLLLLLLLLLLLLLLLLLLLLLLLLLLLLLLLLLLLLLLL\n2999 x OLD",
+        &[
+            "*IDENT Z1\n*INSERT A.1\n921 x LLLLLLLLLLLLLLLLLLLLLLLLLLLLLLLLLLLLLLLLLLLLLLLLLLLLLLLLLLLLLLLLLLLLLL",
+            "*IDENT Z2\n*INSERT Z1.921\n579 x LLLLLLLLLLLLLLLLLLLLLLLLLLLLLLLLLLLLLLLLLLLLLLLLLLLLLLLLLLLLLLLLLLLLLL",
         ],
     ),
     // One that fits is one run, and no edit is none.
@@ -44,6 +54,58 @@ const EDITS: &[(&[&str], &str, &[&str])] = &[
         ],
     ),
 ];
+
+/// Deck A of 2,501 cards, whose lines but the first are all replaced.
+const RANGE: &[&[Part<'_>]] = &[
+    &[Part::Text("*DECK A\n1999 x OLD")],
+    &[Part::Text("*IDENT X\n*INSERT A.2000\n501 x OLD")],
+];
+
+/// How many lines a deck has with a text.
+fn count(library: &Library, line: &str) -> Result<usize, Fail> {
+    let text = active_text(library.allocator(), library, &name("A")?)?;
+    Ok(
+        std::str::from_utf8(&text)?
+            .lines()
+            .filter(|&found| found == line)
+            .count(),
+    )
+}
+
+/// After each part the deck has as many new lines as old ones are gone, but for the share of one line.
+fn is_between(library: &Library) -> Result<(), Fail> {
+    let (old, new) = (count(library, "OLD")?, count(library, "NEW")?);
+    let lines = old.saturating_add(new);
+    holds(
+        "the lines between the parts",
+        2_499 <= lines && lines <= 2_501,
+    )
+}
+
+#[test]
+fn a_range_goes_with_the_lines_that_stand_for_it(rt: HostRuntime) -> Result<(), Fail> {
+    let alloc = rt.alloc();
+    let mut library = after_long(alloc, RANGE)?;
+    let edited = text_of(alloc, &[Part::Text("*DECK A\n2500 x NEW")])?;
+    let runs = match correct_parts(alloc, &library, b"Z", edited.as_bytes()) {
+        Ok(runs) => runs,
+        Err(_) => return Err("the text is refused".into()),
+    };
+    same("the number of runs", runs.len(), 2)?;
+    for run in &runs {
+        applied(&mut library, text(run)?)?;
+        is_between(&library)?;
+    }
+    have_text(&library, &["A"], edited.as_str())?;
+    let Some(second) = runs.get(1) else {
+        return Err("there is one run".into());
+    };
+    let anchor = "*IDENT Z2\n*INSERT Z1.";
+    holds(
+        "the second run names the first",
+        text(second)?.starts_with(anchor),
+    )
+}
 
 /// A run has this text, and is applied.
 fn is_run(library: &mut Library, run: &[u8], wanted: &str) -> Result<(), Fail> {
@@ -97,9 +159,11 @@ fn long_edits_are_several_runs(rt: HostRuntime) -> Result<(), Fail> {
 
 /// Sets and edited texts, and why no runs can be: the name of a set, or of a deck.
 const REFUSED: &[(&str, &str, &str)] = &[
-    ("ABCDEFGHI", "*DECK B", "0:0 BadName\n"),
+    ("ABCDEFGHI", "*DECK B", "0:0 SetLong\n"),
+    ("", "*DECK B", "0:0 NoSet\n"),
+    ("z", "*DECK B", "0:0 PartName(1)\n"),
     ("Z", "*DECK Z1", "1:1 NameTaken\n"),
-    ("Z", "*DECK Z2\n2100 x NEW", "0:0 NameTaken\n"),
+    ("Z", "*DECK Z2\n2100 x NEW", "0:0 PartTaken(2)\n"),
 ];
 
 fn is_refused(library: &Library, set: &str, edited: &str, wanted: &str) -> Result<(), Fail> {

@@ -2,7 +2,7 @@
 
 use std::test::Fail;
 use upd_core::{Library, Name};
-use upd_edit::warning_lines;
+use upd_edit::{warning_list, write_warnings};
 use upd_testkit::applying::{after, name};
 use upd_testkit::check::same_text;
 
@@ -85,12 +85,12 @@ const LATER: &[(&str, &str, &str)] = &[
     (
         "P3",
         "*IDENT Z\n*DELETE P3.1,A.3\n*DELETE S.1\n*RESTORE P8.1\n",
-        "upd: 2: P8.1 came after P3 and is deleted\nupd: 3: S.1 came after P3 and is deleted\n",
+        "upd: 2: P8.1 came after P3 and is deleted\nupd: 3: S.1 came after P3 and is deleted\nupd: 4: P8.1 came after P3\n",
     ),
     (
         "A",
         "*IDENT Z\n*DELETE P3.2\n",
-        "upd: 2: P3.2 is off already, by P8\n",
+        "upd: 2: P3.2 is off already, by P8\nupd: 2: P3.2 stands beside P3.1, which came after A\n",
     ),
     (
         "P8",
@@ -110,7 +110,9 @@ fn has_warnings(
     run: &str,
     wanted: &str,
 ) -> Result<(), Fail> {
-    let found = warning_lines(library.allocator(), library, since, run.as_bytes())?;
+    let alloc = library.allocator();
+    let list = warning_list(alloc, library, since, run.as_bytes())?;
+    let found = write_warnings(alloc, run.as_bytes(), &list)?;
     same_text(run, std::str::from_utf8(&found)?, wanted)
 }
 

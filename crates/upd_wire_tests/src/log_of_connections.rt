@@ -1,12 +1,33 @@
 //! What a server writes of the connections that it has served.
-use crate::http_connections::{Ticking, client_with, listener, longer};
+use crate::http_connections::{client_with, listener, longer};
 use crate::http_desk::QUICK;
 use crate::list_desks::{Lists, empty_desk};
+use std::cell::Cell;
+use std::io;
 use std::io::{Read, Write};
 use std::test::Fail;
+use std::time::{Clock, Duration};
 use upd_testkit::check::{same, same_text};
 use upd_testkit::fake_streams::Narrow;
 use upd_wire::{Listener, serve_on_within};
+
+/// A clock that is at 0 when it is first read, and 12,345 milliseconds later from then on.
+#[derive(Drop)]
+struct Moved {
+    millis: Cell<u64>,
+}
+
+impl Clock for Moved {
+    fn monotonic(&self) -> io::Result<Duration> {
+        let millis = self.millis.get();
+        self.millis.set(12_345);
+        Ok(Duration::from_millis(millis))
+    }
+
+    fn since_1970(&self) -> io::Result<Duration> {
+        Ok(Duration::from_secs(0))
+    }
+}
 
 /// A desk serves a client that sends this. Returns the number of bytes of the answer, and of lines that are lost.
 fn served<W: Write>(
@@ -15,7 +36,8 @@ fn served<W: Write>(
     sent: &str,
     log: &mut W,
 ) -> Result<(usize, u32), Fail> {
-    let (listener, clock) = (listener(rt)?, Ticking::new(0, 0));
+    let (listener, millis) = (listener(rt)?, Cell::new(0));
+    let clock = Moved { millis };
     let mut client = client_with(rt, listener.local_addr()?, sent)?;
     let lost = serve_on_within(rt.alloc(), &clock, Listener::Tcp(&listener), 1, desk, log)?;
     let mut answer = Vec::new(rt.alloc());
@@ -29,7 +51,7 @@ fn is_logged(rt: &HostRuntime, desk: &mut Lists, sent: &str, fields: &str) -> Re
     let (answer, lost) = served(rt, desk, sent, &mut log)?;
     same("lines that are lost", lost, 0)?;
     let bytes = sent.len();
-    let wanted = format!(in rt.alloc(); "upd: {fields} {bytes} {answer} 0ms\n")?;
+    let wanted = format!(in rt.alloc(); "upd: {fields} {bytes} {answer} 12345ms\n")?;
     same_text(fields, std::str::from_utf8(&log)?, &wanted)
 }
 
@@ -87,6 +109,16 @@ fn each_connection_has_a_line(rt: HostRuntime) -> Result<(), Fail> {
 fn a_long_target_is_cut(rt: HostRuntime) -> Result<(), Fail> {
     let sent = longer(rt.alloc(), "GET /", ("a", 300), " HTTP/1.1\r\n\r\n")?;
     let fields = longer(rt.alloc(), "GET /", ("a", 199), " - - 404 BadFrame")?;
+    is_logged(&rt, &mut empty_desk(rt.alloc()), &sent, &fields)
+}
+
+/// Each byte of two fields of 200 may become three.
+#[test]
+fn a_line_has_room_for_two_escaped_fields(rt: HostRuntime) -> Result<(), Fail> {
+    let field = "\x01".repeat(rt.alloc(), 200)?;
+    let sent = format!(in rt.alloc(); "{field} {field}\r\n\r\n")?;
+    let field = "%01".repeat(rt.alloc(), 200)?;
+    let fields = format!(in rt.alloc(); "{field} {field} - - 400 BadFrame")?;
     is_logged(&rt, &mut empty_desk(rt.alloc()), &sent, &fields)
 }
 
