@@ -1,4 +1,4 @@
-//! Runs that are handed in only where they meet nothing that others have done.
+//! Runs that are handed in only where they meet nothing that others have done. Rule 10.94.6.
 use crate::file_sessions::{Step, Wanted, session};
 use std::test::Fail;
 

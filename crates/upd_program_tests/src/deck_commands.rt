@@ -1,4 +1,5 @@
 //! How a deck is edited: its text, the run that corrects it, what the run would do, and its compile file.
+//! Rules 10.61 to 10.67.
 use crate::console::{accepts, answers, answers_of, ask, library, remove};
 use crate::file_sessions::{NO_LIBRARY, Step, Wanted, session};
 use std::test::Fail;

@@ -1,4 +1,4 @@
-//! What is said of a path that is examined, whatever is there.
+//! What is said of a path that is examined, whatever is there. Rules 10.87 and 10.88.
 use crate::console::{accepts, fresh, library, remove};
 use crate::file_sessions::{SILENT, Step, Wanted, session, session_without_file, take_all};
 use crate::site_commands::{NO_MARKS, SECOND_SCHEMA};

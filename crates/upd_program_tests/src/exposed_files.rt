@@ -1,4 +1,5 @@
 //! A library into which others could put commits, by its folder or by the log beside its file: no command opens it.
+//! Rule 10.48.3.
 use crate::console::{answers, fresh, library, remove, without_log};
 use crate::file_sessions::{NO_LIBRARY, SILENT, Step, take_all};
 use crate::lone_logs::logged;

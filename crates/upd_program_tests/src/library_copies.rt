@@ -1,4 +1,4 @@
-//! What the copy of a library is, what is in its way, and who may read it.
+//! What the copy of a library is, what is in its way, and who may read it. Rules 10.81 and 10.82.
 use crate::console::{accepts, answers, fresh, library, remove};
 use crate::file_sessions::{Step, take_all};
 use std::fs;

@@ -1,4 +1,4 @@
-//! `correct` with a deck's listing in place of a library's file.
+//! `correct` with a deck's listing in place of a library's file. Rules 10.83 to 10.86.
 use crate::console::{answers, answers_of, ask, fresh, is_answer, remove};
 use crate::file_sessions::{NO_LIBRARY, Step, session, take_all};
 use std::alloc::Global;

@@ -1,4 +1,4 @@
-//! A log whose file was moved away: no command writes over its commits.
+//! A log whose file was moved away: no command writes over its commits. Rule 10.48.2.
 use crate::console::{fresh, library, remove};
 use crate::file_sessions::{NO_LIBRARY, SILENT, Step, take_all};
 use std::fs;

@@ -1,4 +1,4 @@
-//! What is refused, in which order, and on which stream.
+//! What is refused, in which order, and on which stream. Rules 10.47 to 10.52.
 use crate::console::{answers, answers_of, ask, fresh, is_answer, library, remove};
 use crate::file_sessions::{NO_LIBRARY, SILENT, Step, Wanted, session, take_all};
 use crate::site_commands::SECOND_SCHEMA;

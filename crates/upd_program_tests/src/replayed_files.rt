@@ -1,4 +1,4 @@
-//! What `replay` answers of libraries as runs have left them, and of such that were changed by hand.
+//! What `replay` answers of libraries as runs have left them, and of such that were changed by hand. Rule 10.93.
 use crate::console::{accepts, ask, library, remove};
 use crate::file_changes::change;
 use crate::file_sessions::{Step, session, take_all};

@@ -1,4 +1,5 @@
 //! Where `serve` and `serve-local` listen, as they say: their fault stream is a client that connects there and asks.
+//! Rules 10.51.2 to 10.51.4.
 use crate::console::{answers, library, remove};
 use std::alloc::Global;
 use std::io::{ErrorKind, Read, Write};

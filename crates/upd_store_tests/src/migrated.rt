@@ -1,4 +1,5 @@
 //! Older files in memory, migrated to the current schema: the same listings, the same repeats, and a desk over them.
+//! Rule 10.49.
 use crate::empty_stores::{adopted, refused};
 use crate::older_files::Older;
 use crate::table_rows::table_rows;

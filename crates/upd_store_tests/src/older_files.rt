@@ -1,4 +1,4 @@
-//! Older files, statement by statement, and what their tables hold after a migration.
+//! Older files, statement by statement, and what their tables hold after a migration. Rule 10.60.
 use crate::table_rows::table_rows;
 use sqlite::{Alter, Connection};
 use std::alloc::Global;

@@ -1,4 +1,4 @@
-//! Each refusal of a directive, by a desk, in the order of the rules.
+//! Each refusal of a directive, by a desk, in the order of the rules. Rules 4.3 to 4.23.
 use crate::empty_stores::fresh_session;
 use std::test::Fail;
 use upd_memory::ListStore;

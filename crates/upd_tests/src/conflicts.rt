@@ -1,4 +1,4 @@
-//! Conflicts of a run with what others have done since its author looked.
+//! Conflicts of a run with what others have done since its author looked. Rule 10.94.
 
 use std::alloc::Global;
 use std::test::Fail;

@@ -78,35 +78,35 @@ type Edit = (
 );
 
 const EDITS: &[Edit] = &[
-    // Lines are replaced and added, and a deck is introduced.
+    // Lines are replaced and added, and a deck is introduced (rule 10.63.1).
     (
         SMALL,
         "Z",
         &[Part::Text("*DECK A\nUN\nTHREE\nFOUR\nQUATRE\n*DECK C\nCINQ")],
         "*IDENT Z\n*DELETE A.2\nUN\n*INSERT A.5\nQUATRE\n*DECK C\nCINQ\n",
     ),
-    // A range leaves an inactive card out.
+    // A range leaves an inactive card out (rule 10.65.2).
     (
         SMALL,
         "Z",
         &[Part::Text("*DECK A\nZERO")],
         "*IDENT Z\n*DELETE A.2\nZERO\n*DELETE A.4,A.5\n",
     ),
-    // A range takes all cards that go.
+    // A range takes all cards that go (rule 10.65.2).
     (
         LETTERS,
         "Z",
         &[Part::Text("*DECK A\nA\nT")],
         "*IDENT Z\n*DELETE A.3,A.20\n",
     ),
-    // Of equal cards those of the older ident stay.
+    // Of equal cards those of the older ident stay (rule 10.65.1).
     (
         EQUAL_LINES,
         "Z",
         &[Part::Text("*DECK A\n#else\nTWO\n#endif")],
         "*IDENT Z\n*DELETE A.3\n*DELETE X.2\n*DELETE X.5\n",
     ),
-    // The first and the last line of a long deck are replaced.
+    // The first and the last line of a long deck are replaced (rule 10.65.1).
     (
         LONG,
         "Z",
@@ -117,7 +117,7 @@ const EDITS: &[Edit] = &[
         ],
         "*IDENT Z\n*DELETE D.2\nONE\n*DELETE P.500\nTWO\n",
     ),
-    // All problems are named.
+    // All problems are named (rule 10.64).
     (
         SMALL,
         "X",
@@ -136,7 +136,7 @@ const EDITS: &[Edit] = &[
 10:1 Directive
 ",
     ),
-    // A first card is changed, and a line has 81 bytes.
+    // A first card is changed, and a line has 81 bytes (rule 10.64).
     (
         SMALL,
         "Z",
@@ -145,14 +145,14 @@ const EDITS: &[Edit] = &[
         )],
         "1:1 FirstCard\n2:81 LineLong\n",
     ),
-    // The run has more than 2,000 lines.
+    // The run has more than 2,000 lines (rule 10.64).
     (
         SMALL,
         "Z",
         &[Part::Text("*DECK A\n2000 x L")],
         "0:0 TooManyLines\n",
     ),
-    // The library has no room for another set.
+    // The library has no room for another set (rule 10.64).
     (FULL, "Z", &[Part::Text("*DECK A\nTWO")], "0:0 Full\n"),
 ];
 

@@ -1,4 +1,5 @@
 //! What is found of the rows of a small library, of which one row is changed, lost or doubled, or none that a run brings.
+//! Rules 10.89 and 10.90.
 use crate::examined_tables::{
     A_1, A_2, B_1, DECK_A, DECK_B, DECK_C, REFUSED, RUN_6, Rows, S_1, SET_S, found,
 };

@@ -1,4 +1,4 @@
-//! What is said of faults: the limits of `docs/rules.md` and `docs/protocol.md`, and what to do.
+//! What is said of faults: the limits of `docs/rules.md` and `docs/protocol.md`, and what to do. Rule 10.75.
 
 use std::test::Fail;
 use upd_testkit::check::holds;

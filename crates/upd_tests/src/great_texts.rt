@@ -1,4 +1,4 @@
-//! The text of a deck of as many cards as several runs put.
+//! The text of a deck of as many cards as several runs put. Rule 10.61.1.
 
 use crate::long_runs::{Part, after_long, text, text_of};
 use std::test::Fail;

@@ -1,4 +1,4 @@
-//! Libraries at their limits; `bench/apply.py` times these tests.
+//! Libraries at their limits; `bench/apply.py` times these tests. Rule 8.5.
 use crate::asked_library::{Ask, Asked, check, check_on};
 use crate::long_runs::Part;
 use std::alloc::Global;

@@ -1,4 +1,4 @@
-//! Runs that are made from listings.
+//! Runs that are made from listings. Rules 10.83 to 10.86.
 
 use crate::edited_texts::{changed_lines, deck_text};
 use std::alloc::Global;
@@ -33,7 +33,7 @@ const EDITS: &[(&str, &str, &str)] = &[
         "*COMDECK C\nONE\n",
         "*IDENT Z\n*INSERT C.1\nONE\n",
     ),
-    // Each card that goes is named alone.
+    // Each card that goes is named alone (rule 10.65.3).
     (
         LISTING,
         "*DECK A\nTHREE\n",

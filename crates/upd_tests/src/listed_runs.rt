@@ -1,4 +1,4 @@
-//! The lines of stored runs, made of rows.
+//! The lines of stored runs, made of rows. Rule 10.78.
 use crate::examined_tables::{RunText, put_runs};
 use std::test::Fail;
 use upd_testkit::check::same_text;

@@ -10,7 +10,7 @@ const THREE: &str = "*IDENT X\n*INSERT A.4\nEND\n*DECK B\nBEE\n*IDENT Y\n*YANK A
 const PURGED: &str = "1 A deck held\n2 X set purged\n3 B deck purged\n4 Y set purged\n";
 
 const ASKED: Asked = &[
-    // A purge takes cards and entries.
+    // A purge takes cards and entries (rule 6.1).
     (Ask::Run(DECK_A), "accepted"),
     (Ask::Run(REPLACED), "accepted"),
     (Ask::Run("*IDENT Y\n*YANK X\n"), "accepted"),
@@ -23,7 +23,7 @@ const ASKED: Asked = &[
     (Ask::Run("*IDENT W\n*DELETE Y.1\n"), "accepted"),
     (Ask::Active, "A.2 A.3 A.4"),
     (Ask::Run("*IDENT X\n"), "accepted"),
-    // Purging back by a run.
+    // Purging back by a run (rule 4.20).
     (Ask::Empty, ""),
     (Ask::Run(DECK_A), "accepted"),
     (Ask::Run(THREE), "accepted"),
@@ -31,14 +31,14 @@ const ASKED: Asked = &[
     (Ask::Run("*PURGE X,*\n"), "accepted"),
     (Ask::Active, "A.2 A.3 A.4"),
     (Ask::Idents, PURGED),
-    // Purging back by the call.
+    // Purging back by the call (rule 6.9).
     (Ask::Empty, ""),
     (Ask::Run(DECK_A), "accepted"),
     (Ask::Run(THREE), "accepted"),
     (Ask::PurgeBack(2), ""),
     (Ask::Active, "A.2 A.3 A.4"),
     (Ask::Idents, PURGED),
-    // Names come again.
+    // Names come again (rule 6.7).
     (Ask::Empty, ""),
     (Ask::Run(DECK_A), "accepted"),
     (Ask::Run(REPLACED), "accepted"),
@@ -57,7 +57,7 @@ const ASKED: Asked = &[
         Ask::Yanks,
         "live Y.1 *YANK X\n set X purged\nlive Z.1 *YANK X\n set X\n",
     ),
-    // A name comes again in one run.
+    // A name comes again in one run (rule 6.7).
     (Ask::Empty, ""),
     (Ask::Run(DECK_A), "accepted"),
     (Ask::Run("*IDENT X\n*INSERT A.2\nNEW\n"), "accepted"),

@@ -1,4 +1,4 @@
-//! Edited texts that several runs lead to.
+//! Edited texts that several runs lead to. Rules 10.63.5 to 10.63.7.
 
 use crate::edited_texts::refused;
 use crate::long_runs::{Part, after_long, text, text_of};
@@ -18,7 +18,7 @@ const LONG: &[&[Part<'_>]] = &[
 
 /// Decks of the library, an edited text of them, and the runs that lead to it.
 const EDITS: &[(&[&str], &str, &[&str])] = &[
-    // An edit of 2,500 lines is two runs.
+    // An edit of 2,500 lines is two runs (rule 10.63.5).
     (
         &["A"],
         "*DECK A\n2500 x NEW\n499 x OLD",
@@ -37,7 +37,7 @@ const EDITS: &[(&[&str], &str, &[&str])] = &[
             "*IDENT Z2\n*INSERT Z1.921\n579 x LLLLLLLLLLLLLLLLLLLLLLLLLLLLLLLLLLLLLLLLLLLLLLLLLLLLLLLLLLLLLLLLLLLLLL",
         ],
     ),
-    // One that fits is one run, and no edit is none.
+    // One that fits is one run, and no edit is none (rule 10.63.5).
     (
         &["A"],
         "*DECK A\nNEW\n2999 x OLD",

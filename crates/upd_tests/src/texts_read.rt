@@ -1,4 +1,5 @@
 //! What is refused of a run as it is read: the first fault of the first line that has one, and the limits.
+//! Rules 3.1 to 3.3.
 use std::alloc::Global;
 use std::test::Fail;
 use upd_deck::read_run;

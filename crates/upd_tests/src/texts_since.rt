@@ -1,4 +1,5 @@
 //! Texts that were taken when an older ident was the youngest, and the runs that correct them.
+//! Rules 10.61.2 and 10.63.3.
 
 use crate::asked_library::{Ask, check_on};
 use crate::long_runs::Part;
@@ -14,14 +15,14 @@ const DECK: &str = "*DECK A\nONE\nTWO\nTHREE\n";
 
 /// A later run, an edit of the text of deck A as of A, the run for it, and deck A after it.
 const EDITS: &[[&str; 4]] = &[
-    // A card that came between two deleted ones stays.
+    // A card that came between two deleted ones stays (rule 10.63.3).
     [
         "*IDENT Y\n*INSERT A.2\nNEW\n",
         "*DECK A\nTHREE\n",
         "*IDENT Z\n*DELETE A.2\n*DELETE A.3\n",
         "*DECK A\nNEW\nTHREE\n",
     ],
-    // A line that was changed since stays changed.
+    // A line that was changed since stays changed (rule 10.63.3).
     [
         "*IDENT Y\n*DELETE A.2\nUN\n",
         "*DECK A\nONE\nTWO\nDREI\n",

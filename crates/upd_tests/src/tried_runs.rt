@@ -1,4 +1,4 @@
-//! Warnings of runs that are tried on a small library.
+//! Warnings of runs that are tried on a small library. Rule 10.68.
 
 use std::test::Fail;
 use upd_core::{Library, Name};
@@ -17,17 +17,17 @@ const SMALL: &[&str] = &[
 
 /// Runs, and what is reported of them.
 const WARNINGS: &[(&str, &str)] = &[
-    // Cards that are off already.
+    // Cards that are off already (rule 10.68.4).
     (
         "*IDENT Z\n*DELETE A.3,A.4\n*DELETE A.2,A.6\n*DELETE A.5\n*DELETE X.1\n*RESTORE A.3\n",
         "upd: 2: A.3 is off already, by X\nupd: 2: A.4 is off already, by X\n",
     ),
-    // Wide ranges.
+    // Wide ranges (rule 10.68.4).
     (
         "*IDENT Z\n*DELETE A.7,A.26\n*DELETE A.6,A.26\n*RESTORE A.2,A.21\n*DELETE A.26,A.2\n*DELETE A.2,Q.1\n",
         "upd: 3: the range has 21 cards\nupd: 4: the range has 21 cards\n",
     ),
-    // Text that may be meant for a directive.
+    // Text that may be meant for a directive (rule 10.69).
     (
         "*IDENT Z\n*INSERT A.2\n*delete A.3\n*DELTE A.3\n*DLEETE A.3\n*DELETTE\n*DEKETE,A.3\n*d A.3\n*CAL C\n",
         "upd: 3: *delete is text, not *DELETE\nupd: 4: *DELTE is text, not *DELETE\nupd: 5: *DLEETE is text, not *DELETE\n\
@@ -40,7 +40,7 @@ upd: 9: *CAL is text, not *CALL\n",
         "upd: 2: dropped comments: 3, the first here\nupd: 5: *delete is text, not *DELETE\n",
     ),
     ("*/ one\n*DELETE\n", ""),
-    // A run without lines.
+    // A run without lines (rule 10.68.4).
     (
         "*/ note\n",
         "upd: 1: dropped comments: 1, the first here\nupd: 1: the run is empty: it changes nothing\n",

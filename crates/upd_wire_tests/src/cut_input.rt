@@ -1,4 +1,4 @@
-//! Input that is cut, and input that can't be read or answered to its end.
+//! Input that is cut, and input that can't be read or answered to its end. Rules 10.35, 10.41 and 10.44.
 use crate::list_desks::{Lists, empty_desk, has_stored};
 use std::alloc::Global;
 use std::io::{ErrorKind, Read};

@@ -1,4 +1,4 @@
-//! Requests and their answers, each with its status.
+//! Requests and their answers, each with its status. Rules 10.24 to 10.34.
 use crate::http_desk::{REPEATS, expect_all, expect_read};
 use crate::list_desks::{Lists, empty_desk};
 use std::alloc::Global;

@@ -1,4 +1,4 @@
-//! Connections on this machine.
+//! Connections on this machine. Rule 10.23.
 use crate::http_desk::{QUICK, QUICK_ANSWER};
 use crate::http_frames::RUN_LONG;
 use crate::list_desks::{Lists, empty_desk};

@@ -1,4 +1,4 @@
-//! Bodies at their limits, and lengths.
+//! Bodies at their limits, and lengths. Rules 10.26, 10.29 and 10.30.
 use crate::http_desk::{expect_all, expect_read};
 use crate::list_desks::{Lists, empty_desk};
 use std::alloc::Global;

@@ -1,4 +1,4 @@
-//! What a server writes of the connections that it has served.
+//! What a server writes of the connections that it has served. Rule 10.92.
 use crate::http_connections::{client_with, listener, longer};
 use crate::http_desk::QUICK;
 use crate::list_desks::{Lists, empty_desk};

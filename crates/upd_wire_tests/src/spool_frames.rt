@@ -1,4 +1,4 @@
-//! Frames that are not valid, answers that are not replies, and the greatest number of frames.
+//! Frames that are not valid, answers that are not replies, and the greatest number of frames. Rules 10.37 to 10.44.
 use crate::list_desks::{Lists, empty_desk};
 use crate::spool_streams::{comes_out, ends};
 use std::alloc::Global;

@@ -1,4 +1,4 @@
-//! The worked spool over writers that hold back or fail.
+//! The worked spool over writers that hold back or fail. Rule 10.44.
 use crate::list_desks::{Lists, empty_desk};
 use std::alloc::Global;
 use std::io::{Read, Write};
