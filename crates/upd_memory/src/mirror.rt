@@ -19,7 +19,7 @@ use std::alloc::Global;
 use std::collections::BTreeMap;
 use upd_core::{CardRef, Change, Entry, Ident, Serial, Target};
 use upd_records::{CardRow, EntryRow, TargetRow, drop_targets, purge_ident};
-use upd_shifts::{Move, moves_ahead, moves_of, pieces_of};
+use upd_shifts::{Move, moves_of, part_ahead, pieces_of};
 
 /// The rows of idents, cards, entries and targets, the statuses and the counts.
 pub struct Mirror {
@@ -230,7 +230,7 @@ impl Mirror {
     {
         let mut rest = changes;
         while !rest.is_empty() {
-            let (part, after) = rest.split_at(moves_ahead(rest));
+            let (part, after) = rest.split_at(part_ahead(rest));
             self.carry_out_part(alloc, part)?;
             rest = after;
         }

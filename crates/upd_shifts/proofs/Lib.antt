@@ -1,3 +1,4 @@
 pub mod MoveLemmas
 pub mod PieceLemmas
+pub mod RangeLemmas
 pub mod ShiftLemmas

@@ -1,7 +1,6 @@
 -- Moves of a deck's cards in order, on a row and on the tables; and changes part by part.
-use Rattle.std.proofs.Common.{◌≡◌, ℕ, ◌==◌, nat_le, Bool, true, false, ◌&&◌, cond, if◌then◌else◌, List, [], ◌∷◌, ◌++◌, map}
+use Rattle.std.proofs.Common.{◌≡◌, ℕ, ◌==◌, nat_le, Bool, true, false, ◌&&◌, if◌then◌else◌, List, [], ◌∷◌, ◌++◌, map}
 use Rattle.std.proofs.Common.{refl, sym, ap, ◌∙◌}
-use Rattle.upd_text.specs.declared.card_ref.CardRef.{CardRef}
 use Rattle.upd_records.specs.Changes.{ChangeView, done, done_all, moved_row, shifted}
 use Rattle.upd_records.specs.Fits.{AllFit}
 use Rattle.upd_records.specs.Rows.{CardRow, Rows}

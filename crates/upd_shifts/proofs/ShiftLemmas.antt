@@ -1,5 +1,5 @@
 -- Shifts that are in order move each row once, and as moves do where the one that covers it does.
-use Rattle.std.proofs.Common.{◌≡◌, ℕ, zero, suc, ◌<◌, ◌≤◌, ◌==◌, nat_le, nat_lt, Bool, true, false, ◌&&◌, if◌then◌else◌, cond, IsTrue, List, [], ◌∷◌, Option, Some, None}
+use Rattle.std.proofs.Common.{◌≡◌, ℕ, zero, suc, ◌<◌, ◌≤◌, ◌==◌, nat_le, nat_lt, Bool, true, false, ◌&&◌, if◌then◌else◌, cond, List, [], ◌∷◌, Option, Some}
 use Rattle.std.proofs.Common.{refl, sym, ap, ap₂, subst, ◌∙◌, arith, slice_get, bytes_eq}
 use Rattle.std.proofs.lemmas.Bool.{and_parts}
 use Rattle.std.proofs.lemmas.Bool.Decides.{nat_tests}
@@ -19,7 +19,7 @@ use Rattle.upd_records.specs.Fits.{CanMove}
 use Rattle.upd_records.specs.Rows.{CardRow}
 use Rattle.upd_shifts.specs.declared.moves.Move.{Move}
 use Rattle.upd_shifts.specs.declared.shift.Shift.{Shift}
-use Rattle.upd_shifts.specs.Shifts.{AreApart, CanShiftAll, IsAfter, IsChain, IsRight, covers_by, first_of, is_behind, last_of, moved_all, moved_pos, shifted_all, shifted_row}
+use Rattle.upd_shifts.specs.Shifts.{AreApart, CanShiftAll, IsChain, IsRight, covers_by, first_of, is_behind, last_of, moved_all, moved_pos, shifted_all, shifted_row}
 
 -- ---- lists
 

@@ -6,11 +6,13 @@
 
 pub mod moves;
 pub mod pieces;
+pub mod ranges;
 pub mod right;
 pub mod shift;
 pub mod shifts;
 
-pub use moves::{Move, are_behind, moves_ahead, moves_of};
+pub use moves::{Move, are_behind, moves_of, part_ahead};
 pub use pieces::{Piece, pieces_of, place_by};
+pub use ranges::{CardRange, CardRows, Gone, GoneCards, gone_cards, gone_of};
 pub use shift::Shift;
 pub use shifts::shifts_of;

@@ -44,19 +44,29 @@ fn move_in(deck: Serial, change: &Change) -> Option<Move>
     }
 }
 
-/// How many changes at the front are moves of one deck; 1 where the first is no move.
-pub fn moves_ahead(changes: &[Change]) -> usize
+/// Whether two changes are of one part: moves of one deck, or each takes rows of a card away.
+fn are_alike(one: &Change, other: &Change) -> bool {
+    match (one, other) {
+        (Change::CardsMoved { deck, .. }, Change::CardsMoved { deck: next, .. }) => deck == next,
+        _ => is_gone(one) && is_gone(other),
+    }
+}
+
+fn is_gone(change: &Change) -> bool {
+    matches!(
+        change,
+        Change::EntriesGone(_) | Change::TargetsGone { .. } | Change::CardGone(_)
+    )
+}
+
+/// How many changes at the front are of one part, which may be made at once.
+pub fn part_ahead(changes: &[Change]) -> usize
     requires { 0 < length changes.now }
     ensures { (0 < result) × (result ≤ length changes.now) }
 {
     let mut count = 1;
-    if let Change::CardsMoved { deck, .. } = &changes[0] {
-        while count < changes.len() {
-            match &changes[count] {
-                Change::CardsMoved { deck: next, .. } if next == deck => count += 1,
-                _ => return count,
-            }
-        }
+    while count < changes.len() && are_alike(&changes[0], &changes[count]) {
+        count += 1;
     }
     count
 }

@@ -42,8 +42,8 @@ pub use Rattle.upd_sql.specs.Encoded.{card_row, count_row, entry_row, ident_row,
 pub use Rattle.upd_sql.specs.LibraryTables.{AnyTables, HoldsTables}
 pub use Rattle.upd_sql.specs.Listed.{AreInOrder, by_key, by_site, in_any_order}
 pub use Rattle.upd_sql.specs.Making.{HasEmptyTables, MayMake, Transforms, no_rows}
-pub use Rattle.upd_sql.specs.RowEdits.{CanMoveOf, covers, with_count, with_mark, with_moved, with_others_moved, with_restated, with_state, without_card}
-pub use Rattle.upd_sql.specs.RowEdits.{without_count, without_mark, without_runs, without_state}
+pub use Rattle.upd_sql.specs.RowEdits.{CanMoveOf, covers, with_count, with_mark, with_moved, with_others_moved, with_restated, with_state, without_card_rows}
+pub use Rattle.upd_sql.specs.RowEdits.{without_count, without_mark, without_runs, without_states}
 pub use Rattle.upd_sql.specs.Schema.{card_columns, count_columns, entry_columns, ident_columns, library_schema, mark_columns, no_schema, run_columns}
 pub use Rattle.upd_sql.specs.Schema.{state_columns, target_columns}
 pub use Rattle.upd_sql.specs.Wanted.{key_indexes}

@@ -4,8 +4,10 @@ use Rattle.upd_sql.proofs.Common.{CardRef, Target, Set, SetIn, Deck, is_same, Ca
 use Rattle.upd_sql.proofs.Common.{is_run, is_settled, is_mark_of, eq_text, eq_nat, one_test, two_tests, three_tests, num, target_code, card_row, entry_row}
 use Rattle.upd_sql.proofs.Common.{target_row, run_row, state_row, count_row, mark_row}
 use Rattle.std.proofs.Common.{nat_eq}
-use Rattle.upd_sqlite.proofs.Tests.{le_nat}
-use Rattle.upd_sql.proofs.WriteTexts.{card_tests, delete_count_tests, delete_runs_tests, first_tests}
+use Rattle.upd_shifts.specs.Ranges.{in_range}
+use Rattle.upd_shifts.specs.declared.ranges.CardRange.{CardRange}
+use Rattle.upd_sqlite.proofs.Tests.{ge_nat, le_nat}
+use Rattle.upd_sql.proofs.WriteTexts.{card_tests, delete_count_tests, delete_runs_tests, first_tests, range_tests}
 use Rattle.upd_sql.proofs.ReadTexts.{run_of_key_tests, mark_of_site_tests}
 
 pub bytes_flip : (a b : List ℕ) → bytes_eq a b ≡ bytes_eq b a
@@ -20,25 +22,29 @@ bytes_flip (x ∷ a) (y ∷ b) = ap₂ ◌&&◌ (nat_flip x y) (bytes_flip a b)
 pub nat_flip : (m n : ℕ) → (m == n) ≡ (n == m)
 nat_flip m n = grind (arith, nat_tests)
 
--- the parameters that name a card
-abbrev pub card_params : CardRef → Row
-card_params c = Text c.name ∷ num c.number ∷ []
+-- the parameters that name a range of cards
+abbrev pub range_params : CardRange → Row
+range_params range = Text range.name ∷ num range.first ∷ num range.last ∷ []
 
 -- a row passes its tests
 abbrev pub passes : Row → List Term → Row → Bool
 passes params tests v = list_all (holds (params ∷ (Null ∷ v) ∷ [])) tests
 
-pub card_named : (c : CardRef) (r : CardRow) → passes (card_params c) card_tests (card_row r) ≡ same_ref c r.card
-card_named c r = two_tests (eq_text r.card.name c.name ∙ bytes_flip r.card.name c.name) (eq_nat r.card.number c.number ∙ nat_flip r.card.number c.number)
+pub card_ranged : (range : CardRange) (r : CardRow) → passes (range_params range) range_tests (card_row r) ≡ in_range range r.card
+card_ranged range r =
+    three_tests (eq_text r.card.name range.name ∙ bytes_flip r.card.name range.name) (ge_nat r.card.number range.first) (le_nat r.card.number range.last)
 
-pub entry_named : (c : CardRef) (r : EntryRow) → passes (card_params c) card_tests (entry_row r) ≡ same_ref c r.card
-entry_named c r = two_tests (eq_text r.card.name c.name ∙ bytes_flip r.card.name c.name) (eq_nat r.card.number c.number ∙ nat_flip r.card.number c.number)
+pub entry_ranged : (range : CardRange) (r : EntryRow) → passes (range_params range) range_tests (entry_row r) ≡ in_range range r.card
+entry_ranged range r =
+    three_tests (eq_text r.card.name range.name ∙ bytes_flip r.card.name range.name) (ge_nat r.card.number range.first) (le_nat r.card.number range.last)
 
-pub target_named : (c : CardRef) (r : TargetRow) → passes (card_params c) card_tests (target_row r) ≡ same_ref c r.card
-target_named c r = two_tests (eq_text r.card.name c.name ∙ bytes_flip r.card.name c.name) (eq_nat r.card.number c.number ∙ nat_flip r.card.number c.number)
+pub target_ranged : (range : CardRange) (r : TargetRow) → passes (range_params range) range_tests (target_row r) ≡ in_range range r.card
+target_ranged range r =
+    three_tests (eq_text r.card.name range.name ∙ bytes_flip r.card.name range.name) (ge_nat r.card.number range.first) (le_nat r.card.number range.last)
 
-pub state_named : (c : CardRef) (r : StateRow) → passes (card_params c) card_tests (state_row r) ≡ same_ref c r.card
-state_named c r = two_tests (eq_text r.card.name c.name ∙ bytes_flip r.card.name c.name) (eq_nat r.card.number c.number ∙ nat_flip r.card.number c.number)
+pub state_ranged : (range : CardRange) (r : StateRow) → passes (range_params range) range_tests (state_row r) ≡ in_range range r.card
+state_ranged range r =
+    three_tests (eq_text r.card.name range.name ∙ bytes_flip r.card.name range.name) (ge_nat r.card.number range.first) (le_nat r.card.number range.last)
 
 pub state_told : (r s : StateRow) → passes (state_row r) card_tests (state_row s) ≡ same_ref r.card s.card
 state_told r s = two_tests (eq_text s.card.name r.card.name ∙ bytes_flip s.card.name r.card.name) (eq_nat s.card.number r.card.number

@@ -12,7 +12,9 @@ use Rattle.upd_sql.proofs.Casts.{cast_ident, cast_card, cast_entry, cast_target,
 use Rattle.sqlite_keyed.proofs.ListLemmas.{all_of}
 use Rattle.upd_records.specs.Changes.{purged_row}
 use Rattle.upd_sqlite.proofs.Tests.{ge_nat, add_nat, sub_nat}
-use Rattle.upd_sql.proofs.Conditions.{bytes_flip, passes, card_params, card_named, entry_named, target_named, state_named, state_told, count_named}
+use Rattle.upd_sql.proofs.Conditions.{bytes_flip, passes, range_params, card_ranged, entry_ranged, target_ranged, state_ranged, state_told, count_named}
+use Rattle.upd_shifts.specs.Ranges.{in_range}
+use Rattle.upd_shifts.specs.declared.ranges.CardRange.{CardRange}
 use Rattle.upd_sql.proofs.Conditions.{mark_named, run_settled}
 use Rattle.upd_sql.proofs.WriteTexts as text
 
@@ -77,31 +79,29 @@ module _ (old new : State) (count : ℕ) (it : Rows) (h : HoldsTables it old.now
   mark_added r ran = adds 8 16 (codes "settled") mark_columns (1 ∷ []) refl refl (λ _ _. refl) mark_row (stored it) it.settled refl text.insert_mark
       (mark_row r) text.insert_mark_does.plain old new count ran h (lit Null ∷ col 0 0 ∷ col 0 1 ∷ []) 3 text.insert_mark_does.is r refl (cast_mark r)
 
-  pub card_gone : (c : CardRef) → Executes text.delete_card (card_params c) old new (Ok count)
-      → HoldsTables (record it { cards = filter (λ r. not (same_ref c r.card)) it.cards }) new.now
-  card_gone c ran =
-      removes 2 4 (codes "cards") card_columns (1 ∷ 2 ∷ []) refl refl (λ _ _. refl) card_row (stored it) it.cards refl text.delete_card
-      (card_params c) text.delete_card_does.plain old new count ran h text.card_tests text.delete_card_does.is refl (λ r. same_ref c r.card) (card_named c)
+  pub cards_gone : (s : CardRange) → Executes text.delete_cards (range_params s) old new (Ok count)
+      → HoldsTables (record it { cards = filter (λ r. not (in_range s r.card)) it.cards }) new.now
+  cards_gone s ran =
+      removes 2 4 (codes "cards") card_columns (1 ∷ 2 ∷ []) refl refl (λ _ _. refl) card_row (stored it) it.cards refl text.delete_cards
+      (range_params s) text.delete_cards_does.plain old new count ran h text.range_tests text.delete_cards_does.is refl (λ r. in_range s r.card) (card_ranged s)
 
-  pub entries_gone : (c : CardRef) → Executes text.delete_entries (card_params c) old new (Ok count)
-      → HoldsTables (record it { entries = filter (λ r. not (same_ref c r.card)) it.entries }) new.now
-  entries_gone c ran =
+  pub entries_gone : (s : CardRange) → Executes text.delete_entries (range_params s) old new (Ok count)
+      → HoldsTables (record it { entries = filter (λ r. not (in_range s r.card)) it.entries }) new.now
+  entries_gone s ran =
       removes 3 6 (codes "entries") entry_columns (1 ∷ 2 ∷ 3 ∷ []) refl refl (λ _ _. refl) entry_row (stored it) it.entries refl text.delete_entries
-      (card_params c) text.delete_entries_does.plain old new count ran h text.card_tests text.delete_entries_does.is refl (λ r. same_ref c r.card)
-      (entry_named c)
+      (range_params s) text.delete_entries_does.plain old new count ran h text.range_tests text.delete_entries_does.is refl (λ r. in_range s r.card) (entry_ranged s)
 
-  pub targets_gone : (c : CardRef) → Executes text.delete_targets (card_params c) old new (Ok count)
-      → HoldsTables (record it { targets = filter (λ r. not (same_ref c r.card)) it.targets }) new.now
-  targets_gone c ran =
+  pub targets_gone : (s : CardRange) → Executes text.delete_targets (range_params s) old new (Ok count)
+      → HoldsTables (record it { targets = filter (λ r. not (in_range s r.card)) it.targets }) new.now
+  targets_gone s ran =
       removes 4 8 (codes "targets") target_columns (1 ∷ 2 ∷ 3 ∷ []) refl refl (λ _ _. refl) target_row (stored it) it.targets refl text.delete_targets
-      (card_params c) text.delete_targets_does.plain old new count ran h text.card_tests text.delete_targets_does.is refl (λ r. same_ref c r.card)
-      (target_named c)
+      (range_params s) text.delete_targets_does.plain old new count ran h text.range_tests text.delete_targets_does.is refl (λ r. in_range s r.card) (target_ranged s)
 
-  pub state_gone : (c : CardRef) → Executes text.delete_state (card_params c) old new (Ok count)
-      → HoldsTables (record it { states = filter (λ r. not (same_ref c r.card)) it.states }) new.now
-  state_gone c ran =
-      removes 6 12 (codes "states") state_columns (1 ∷ 2 ∷ []) refl refl (λ _ _. refl) state_row (stored it) it.states refl text.delete_state
-      (card_params c) text.delete_state_does.plain old new count ran h text.card_tests text.delete_state_does.is refl (λ r. same_ref c r.card) (state_named c)
+  pub states_gone : (s : CardRange) → Executes text.delete_states (range_params s) old new (Ok count)
+      → HoldsTables (record it { states = filter (λ r. not (in_range s r.card)) it.states }) new.now
+  states_gone s ran =
+      removes 6 12 (codes "states") state_columns (1 ∷ 2 ∷ []) refl refl (λ _ _. refl) state_row (stored it) it.states refl text.delete_states
+      (range_params s) text.delete_states_does.plain old new count ran h text.range_tests text.delete_states_does.is refl (λ r. in_range s r.card) (state_ranged s)
 
   pub count_gone : (t : Target) → Executes text.delete_count (target_code t) old new (Ok count)
       → HoldsTables (record it { counts = filter (λ r. not (is_same t r.target)) it.counts }) new.now

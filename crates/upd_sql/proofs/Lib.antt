@@ -19,3 +19,4 @@ pub mod ToldLemmas
 pub mod MovingTexts
 pub mod MovingEffects
 pub mod TogetherLemmas
+pub mod RemovingLemmas

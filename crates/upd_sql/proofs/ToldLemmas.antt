@@ -1,7 +1,7 @@
 -- A status that is changed in its place, or put after all others, by the number of rows that its card had.
-use Rattle.upd_sql.proofs.Common.{◌≡◌, ℕ, Bool, List, [], ◌∷◌, ◌++◌, map, length, Result, Ok, Err, sym, ap, subst, ◌∙◌, ne_eqb, Error, State, CardRef, done}
+use Rattle.upd_sql.proofs.Common.{◌≡◌, ℕ, Bool, List, [], ◌∷◌, ◌++◌, map, length, Result, Ok, Err, sym, ap, subst, ◌∙◌, ne_eqb, Error, State, CardRef, done, same_ref}
 use Rattle.upd_sql.proofs.Common.{restated, status_rows, Rows, StateRow, Makes, clean_before, steps_then, CountsStatuses, AnyTables, HoldsTables}
-use Rattle.upd_sql.proofs.Common.{with_restated, with_state, without_state}
+use Rattle.upd_sql.proofs.Common.{with_restated, with_state, without_states}
 use Rattle.std.proofs.Common.{◌≢◌, cond}
 use Rattle.std.proofs.lemmas.Bool.Decides.{Decides-eqb}
 use Rattle.upd_records.proofs.StatusLemmas.{none_restated, none_taken, others_left}
@@ -60,7 +60,7 @@ module _ (card : CardRef) (active : Bool) where
 
   -- the card had several rows
   pub told_anew : {X : Type 0} (a b c : State) (n : ℕ) (r : Result X Error) → Restates a b (Ok n) → CountsStatuses card a b (Ok n)
-      → Makes HoldsTables AnyTables (λ it. with_state card active (without_state card it)) b c r → n ≢ 1 → Tells a c r
-  told_anew a b c n r m counted q many = told_then (λ it. with_state card active (without_state card it)) a b c n r m counted q (λ it is.
+      → Makes HoldsTables AnyTables (λ it. with_state card active (without_states (same_ref card) it)) b c r → n ≢ 1 → Tells a c r
+  told_anew a b c n r m counted q many = told_then (λ it. with_state card active (without_states (same_ref card) it)) a b c n r m counted q (λ it is.
       ap (λ ss. record it { states = ss })
       (ap (λ xs. xs ++ row ∷ []) (others_left card active it.states) ∙ last_told it.states (λ one. many (is ∙ one))))

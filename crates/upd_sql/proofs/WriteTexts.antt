@@ -81,36 +81,36 @@ insert_mark_does = record { is = refl; plain = (refl, refl) }
 
 -- ---- rows taken out
 
-abbrev pub delete_card : List ℕ
-delete_card = sql.DELETE_CARD.now
+abbrev pub delete_cards : List ℕ
+delete_cards = sql.DELETE_CARDS.now
 
-abbrev pub card_tests : List Term
-card_tests = op2 (Compare Eq Binary) (col 1 1) (col 0 0) ∷ op2 (Compare Eq Binary) (col 1 2) (col 0 1) ∷ []
+abbrev pub range_tests : List Term
+range_tests = op2 (Compare Eq Binary) (col 1 1) (col 0 0) ∷ op2 (Compare Ge Binary) (col 1 2) (col 0 1) ∷ op2 (Compare Le Binary) (col 1 2) (col 0 2) ∷ []
 
-pub delete_card_does : Compiles delete_card (Delete 2 (record { lets = []; body = plain_query 4 card_tests (col 1 0 ∷ []) [] }))
+pub delete_cards_does : Compiles delete_cards (Delete 2 (record { lets = []; body = plain_query 4 range_tests (col 1 0 ∷ []) [] }))
 unfolding understood everything
-delete_card_does = record { is = refl; plain = (refl, refl) }
+delete_cards_does = record { is = refl; plain = (refl, refl) }
 
 abbrev pub delete_entries : List ℕ
 delete_entries = sql.DELETE_ENTRIES.now
 
-pub delete_entries_does : Compiles delete_entries (Delete 3 (record { lets = []; body = plain_query 6 card_tests (col 1 0 ∷ []) [] }))
+pub delete_entries_does : Compiles delete_entries (Delete 3 (record { lets = []; body = plain_query 6 range_tests (col 1 0 ∷ []) [] }))
 unfolding understood everything
 delete_entries_does = record { is = refl; plain = (refl, refl) }
 
 abbrev pub delete_targets : List ℕ
 delete_targets = sql.DELETE_TARGETS.now
 
-pub delete_targets_does : Compiles delete_targets (Delete 4 (record { lets = []; body = plain_query 8 card_tests (col 1 0 ∷ []) [] }))
+pub delete_targets_does : Compiles delete_targets (Delete 4 (record { lets = []; body = plain_query 8 range_tests (col 1 0 ∷ []) [] }))
 unfolding understood everything
 delete_targets_does = record { is = refl; plain = (refl, refl) }
 
-abbrev pub delete_state : List ℕ
-delete_state = sql.DELETE_STATE.now
+abbrev pub delete_states : List ℕ
+delete_states = sql.DELETE_STATES.now
 
-pub delete_state_does : Compiles delete_state (Delete 6 (record { lets = []; body = plain_query 12 card_tests (col 1 0 ∷ []) [] }))
+pub delete_states_does : Compiles delete_states (Delete 6 (record { lets = []; body = plain_query 12 range_tests (col 1 0 ∷ []) [] }))
 unfolding understood everything
-delete_state_does = record { is = refl; plain = (refl, refl) }
+delete_states_does = record { is = refl; plain = (refl, refl) }
 
 abbrev pub delete_count : List ℕ
 delete_count = sql.DELETE_COUNT.now
@@ -161,6 +161,9 @@ update_state = sql.UPDATE_STATE.now
 
 abbrev pub update_state_news : List Term
 update_state_news = col 1 1 ∷ col 1 2 ∷ col 0 2 ∷ []
+
+abbrev pub card_tests : List Term
+card_tests = op2 (Compare Eq Binary) (col 1 1) (col 0 0) ∷ op2 (Compare Eq Binary) (col 1 2) (col 0 1) ∷ []
 
 pub update_state_does : Compiles update_state
     (Update 6 (record { lets = []; body = plain_query 12 card_tests (col 1 0 ∷ col 1 0 ∷ update_state_news) [] }))

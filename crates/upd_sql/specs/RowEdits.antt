@@ -9,13 +9,13 @@ use Rattle.upd_records.specs.Changes.{moved_row, restated}
 use Rattle.upd_records.specs.Rows.{Rows, same_ref}
 use Rattle.upd_row_store.specs.Tables.{is_settled, is_mark_of}
 
--- without a card's row of cards
-abbrev pub without_card : CardRef → Rows → Rows
-without_card card rows = record rows { cards = filter (λ r. not (same_ref card r.card)) rows.cards }
+-- without the rows of the cards that go, but with their statuses
+abbrev pub without_card_rows : (CardRef → Bool) → Rows → Rows
+without_card_rows goes rows = record rows { cards = filter (λ r. not (goes r.card)) rows.cards }
 
--- without a card's status
-abbrev pub without_state : CardRef → Rows → Rows
-without_state card rows = record rows { states = filter (λ r. not (same_ref card r.card)) rows.states }
+-- without the statuses of the cards that go
+abbrev pub without_states : (CardRef → Bool) → Rows → Rows
+without_states goes rows = record rows { states = filter (λ r. not (goes r.card)) rows.states }
 
 -- with a card's status changed in place
 abbrev pub with_restated : CardRef → Bool → Rows → Rows

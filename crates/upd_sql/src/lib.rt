@@ -11,6 +11,7 @@ mod moving;
 mod moving_texts;
 mod reads;
 mod record;
+mod removing;
 mod row_writes;
 mod schema;
 mod settle;

@@ -1,8 +1,9 @@
 //! Row changes, carried out by statements.
-ghost use Rattle.std.specs.Prelude.{◌≡◌, ◌<◌, ◌≤◌, length, IfSome, map, option_copied, pos};
+ghost use Rattle.std.specs.Prelude.{◌≡◌, IfSome, map, option_copied, pos};
 ghost use Rattle.sqlite.specs.Held.{state};
-ghost use Rattle.upd_records.specs.Changes.{done, done_all, change_view, CardGone, CardsMoved, CountNow, StatusNow};
+ghost use Rattle.upd_records.specs.Changes.{done, done_all, change_view, CardsMoved, CountNow, StatusNow};
 ghost use Rattle.upd_records.specs.Fits.{AllFit, Fits};
+ghost use Rattle.upd_records.specs.Rows.{same_ref};
 ghost use Rattle.upd_row_store.specs.Movable.{MovesListed};
 ghost use Rattle.upd_shifts.specs.Shifts.{as_change};
 ghost use Rattle.upd_sqlite.specs.Steps.{Makes};
@@ -10,23 +11,16 @@ ghost use Rattle.upd_sql.specs.Commits.{Inside};
 ghost use Rattle.upd_sql.specs.Doable.{AllCanBeDone, CanBeDone};
 ghost use Rattle.upd_sql.specs.LibraryTables.{AnyTables, HoldsTables};
 ghost use Rattle.upd_sql.specs.Moving.{MakesIf};
-ghost use Rattle.upd_sql.specs.RowEdits.{with_state, without_state};
+ghost use Rattle.upd_sql.specs.RowEdits.{with_state, without_states};
 
 use crate::moving::move_together;
+use crate::removing::{remove, remove_together};
 use crate::writes;
 use sqlite::{Alter, Error, Transaction};
 use std::alloc::Global;
 use std::collections::BTreeMap;
 use upd_core::{CardRef, Change, Name, Serial, Target};
-use upd_shifts::{Move, moves_of};
-
-/// Removes the card and its status.
-fn remove_card<S: Alter>(tx: &mut Transaction<'_, S>, card: &CardRef) -> Result<(), Error>
-    ensures { Inside (state S.Store) (Makes HoldsTables AnyTables (done (CardGone card.now))) tx.old.conn tx.new.conn result }
-{
-    writes::delete_card(tx, card)?;
-    writes::delete_state(tx, card)
-}
+use upd_shifts::{CardRange, CardRows, Move, moves_of, part_ahead};
 
 /// Puts the card's status after all others, in place of those that the card has.
 fn replace_state<S: Alter>(
@@ -34,10 +28,10 @@ fn replace_state<S: Alter>(
     card: &CardRef,
     active: bool,
 ) -> Result<(), Error>
-    ensures { Inside (state S.Store) (Makes HoldsTables AnyTables (λ it. with_state card.now active (without_state card.now it)))
+    ensures { Inside (state S.Store) (Makes HoldsTables AnyTables (λ it. with_state card.now active (without_states (same_ref card.now) it)))
         tx.old.conn tx.new.conn result }
 {
-    writes::delete_state(tx, card)?;
+    writes::delete_states(tx, &CardRange::of(card))?;
     writes::insert_state(tx, card, active)
 }
 
@@ -119,12 +113,12 @@ fn carry_out<S: Alter>(tx: &mut Transaction<'_, S>, change: &Change) -> Result<(
             pos,
             text,
         } => writes::insert_card(tx, card, *deck, *pos, text),
-        Change::CardGone(card) => remove_card(tx, card),
+        Change::CardGone(card) => remove(tx, CardRows::Card, card),
         Change::CardsMoved { deck, from, by } => move_cards(tx, *deck, *from, *by),
         Change::EntryNew { card, ord, entry } => writes::insert_entry(tx, card, *ord, entry),
-        Change::EntriesGone(card) => writes::delete_entries(tx, card),
+        Change::EntriesGone(card) => remove(tx, CardRows::Entries, card),
         Change::TargetNew { card, ord, target } => writes::insert_target(tx, card, *ord, *target),
-        Change::TargetsGone { card, .. } => writes::delete_targets(tx, card),
+        Change::TargetsGone { card, .. } => remove(tx, CardRows::Targets, card),
         Change::StatusNow { card, active } => set_state(tx, card, *active),
         Change::CountNow { target, n } => set_count(tx, *target, *n),
     }
@@ -210,7 +204,8 @@ fn carry_out_unlisted<S: Alter>(
     carry_out_each(tx, None, changes)
 }
 
-/// Carries out changes in order. Where it is known which cards may move, it looks for these only.
+/// Carries out changes in order: at once, where cards go or are moved often. Where it is known which cards may move, it
+/// looks for these only.
 fn carry_out_part<S: Alter>(
     tx: &mut Transaction<'_, S>,
     alloc: Global,
@@ -220,27 +215,13 @@ fn carry_out_part<S: Alter>(
     ensures { Inside (state S.Store) (Makes HoldsTables (AllCanBeDone (option_copied movable.entry) (map change_view changes.now))
         (done_all (map change_view changes.now))) tx.old.conn tx.new.conn result }
 {
+    if remove_together(tx, alloc, changes)? {
+        return Ok(());
+    }
     match movable {
         Some(_) => carry_out_each(tx, movable, changes),
         None => carry_out_unlisted(tx, alloc, changes),
     }
-}
-
-/// How many changes at the front are moves of one deck; 1 where the first is no move.
-fn moves_ahead(changes: &[Change]) -> usize
-    requires { 0 < length changes.now }
-    ensures { (0 < result) × (result ≤ length changes.now) }
-{
-    let mut count = 1;
-    if let Change::CardsMoved { deck, .. } = &changes[0] {
-        while count < changes.len() {
-            match &changes[count] {
-                Change::CardsMoved { deck: next, .. } if next == deck => count += 1,
-                _ => return count,
-            }
-        }
-    }
-    count
 }
 
 /// Carries out changes in order, inside a transaction. Where it is known which cards may move, it looks for these only.
@@ -255,7 +236,7 @@ pub(crate) fn carry_out_moving<S: Alter>(
 {
     let mut at = 0;
     while at < changes.len() {
-        let next = at + moves_ahead(&changes[at..]);
+        let next = at + part_ahead(&changes[at..]);
         carry_out_part(tx, alloc, movable, &changes[at..next])?;
         at = next;
     }

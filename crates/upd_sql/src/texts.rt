@@ -64,13 +64,17 @@ pub(crate) const INSERT_COUNT: &str =
 pub(crate) const INSERT_MARK: &str = "INSERT INTO settled (site, mark) VALUES (?1, ?2)";
 
 // Rows removed.
-pub(crate) const DELETE_CARD: &str = "DELETE FROM cards WHERE ident = ?1 AND num = ?2";
+pub(crate) const DELETE_CARDS: &str =
+    "DELETE FROM cards WHERE ident = ?1 AND num >= ?2 AND num <= ?3";
 
-pub(crate) const DELETE_ENTRIES: &str = "DELETE FROM entries WHERE ident = ?1 AND num = ?2";
+pub(crate) const DELETE_ENTRIES: &str =
+    "DELETE FROM entries WHERE ident = ?1 AND num >= ?2 AND num <= ?3";
 
-pub(crate) const DELETE_TARGETS: &str = "DELETE FROM targets WHERE ident = ?1 AND num = ?2";
+pub(crate) const DELETE_TARGETS: &str =
+    "DELETE FROM targets WHERE ident = ?1 AND num >= ?2 AND num <= ?3";
 
-pub(crate) const DELETE_STATE: &str = "DELETE FROM states WHERE ident = ?1 AND num = ?2";
+pub(crate) const DELETE_STATES: &str =
+    "DELETE FROM states WHERE ident = ?1 AND num >= ?2 AND num <= ?3";
 
 pub(crate) const DELETE_COUNT: &str =
     "DELETE FROM counts WHERE kind = ?1 AND target = ?2 AND deck = ?3";

@@ -1,13 +1,14 @@
 //! One function for each statement that changes rows; `make.rt` has those that make the tables.
-ghost use Rattle.std.specs.Prelude.{◌≡◌, ◌<◌, ◌-◌, pos, negsuc, []};
+ghost use Rattle.std.specs.Prelude.{◌≡◌, ◌<◌, ◌-◌, pos, negsuc};
 ghost use Rattle.sqlite.specs.Held.{state};
-ghost use Rattle.upd_records.specs.Changes.{done, CardNew, CardsMoved, EntriesGone, EntryNew, IdentNew, IdentPurged};
-ghost use Rattle.upd_records.specs.Changes.{TargetNew, TargetsGone};
+ghost use Rattle.upd_records.specs.Changes.{done, CardNew, CardsMoved, EntryNew, IdentNew, IdentPurged, TargetNew};
 ghost use Rattle.upd_records.specs.Fits.{Fits};
 ghost use Rattle.upd_row_store.specs.Tables.{with_run};
+ghost use Rattle.upd_shifts.specs.Ranges.{in_range, without_rows};
+ghost use Rattle.upd_shifts.specs.declared.ranges.CardRows.TheVariants.{Entries, Targets};
 ghost use Rattle.upd_sqlite.specs.Steps.{Makes};
-ghost use Rattle.upd_sql.specs.RowEdits.{CanMoveOf, with_count, with_mark, with_moved, with_restated, with_state, without_card};
-ghost use Rattle.upd_sql.specs.RowEdits.{without_count, without_mark, without_runs, without_state};
+ghost use Rattle.upd_sql.specs.RowEdits.{CanMoveOf, with_count, with_mark, with_moved, with_restated, with_state, without_card_rows};
+ghost use Rattle.upd_sql.specs.RowEdits.{without_count, without_mark, without_runs, without_states};
 ghost use Rattle.upd_sql.specs.Commits.{CountsStatuses, Inside, WasOpen};
 ghost use Rattle.upd_sql.specs.LibraryTables.{AnyTables, HoldsTables};
 
@@ -16,6 +17,7 @@ use crate::values::{self, blob, codes_of, flag, kind, name, number, text, wide};
 use sqlite::{Alter, Error, Transaction};
 use upd_core::{CardRef, Entry, Ident, Name, Serial, Target};
 use upd_records::RunRow;
+use upd_shifts::CardRange;
 use upd_sqlite::{run, run_counted};
 
 pub(crate) fn insert_ident<S: Alter>(
@@ -66,17 +68,17 @@ pub(crate) fn insert_card<S: Alter>(
     )
 }
 
-/// Removes only the card's row; `delete_state` removes its status.
-pub(crate) fn delete_card<S: Alter>(
+/// Removes only the cards' rows; `delete_states` removes their statuses.
+pub(crate) fn delete_cards<S: Alter>(
     tx: &mut Transaction<'_, S>,
-    card: &CardRef,
+    range: &CardRange,
 ) -> Result<(), Error>
-    ensures { Inside (state S.Store) (Makes HoldsTables AnyTables (without_card card.now)) tx.old.conn tx.new.conn result }
+    ensures { Inside (state S.Store) (Makes HoldsTables AnyTables (without_card_rows (in_range range.now))) tx.old.conn tx.new.conn result }
 {
     run(
         tx,
-        texts::DELETE_CARD,
-        &[name(&card.name), number(card.number)],
+        texts::DELETE_CARDS,
+        &[name(&range.name), number(range.first), number(range.last)],
     )
 }
 
@@ -103,14 +105,14 @@ pub(crate) fn insert_entry<S: Alter>(
 
 pub(crate) fn delete_entries<S: Alter>(
     tx: &mut Transaction<'_, S>,
-    card: &CardRef,
+    range: &CardRange,
 ) -> Result<(), Error>
-    ensures { Inside (state S.Store) (Makes HoldsTables AnyTables (done (EntriesGone card.now))) tx.old.conn tx.new.conn result }
+    ensures { Inside (state S.Store) (Makes HoldsTables AnyTables (without_rows Entries (in_range range.now))) tx.old.conn tx.new.conn result }
 {
     run(
         tx,
         texts::DELETE_ENTRIES,
-        &[name(&card.name), number(card.number)],
+        &[name(&range.name), number(range.first), number(range.last)],
     )
 }
 
@@ -139,14 +141,14 @@ pub(crate) fn insert_target<S: Alter>(
 
 pub(crate) fn delete_targets<S: Alter>(
     tx: &mut Transaction<'_, S>,
-    card: &CardRef,
+    range: &CardRange,
 ) -> Result<(), Error>
-    ensures { Inside (state S.Store) (Makes HoldsTables AnyTables (done (TargetsGone card.now []))) tx.old.conn tx.new.conn result }
+    ensures { Inside (state S.Store) (Makes HoldsTables AnyTables (without_rows Targets (in_range range.now))) tx.old.conn tx.new.conn result }
 {
     run(
         tx,
         texts::DELETE_TARGETS,
-        &[name(&card.name), number(card.number)],
+        &[name(&range.name), number(range.first), number(range.last)],
     )
 }
 
@@ -183,16 +185,16 @@ pub(crate) fn insert_state<S: Alter>(
     )
 }
 
-pub(crate) fn delete_state<S: Alter>(
+pub(crate) fn delete_states<S: Alter>(
     tx: &mut Transaction<'_, S>,
-    card: &CardRef,
+    range: &CardRange,
 ) -> Result<(), Error>
-    ensures { Inside (state S.Store) (Makes HoldsTables AnyTables (without_state card.now)) tx.old.conn tx.new.conn result }
+    ensures { Inside (state S.Store) (Makes HoldsTables AnyTables (without_states (in_range range.now))) tx.old.conn tx.new.conn result }
 {
     run(
         tx,
-        texts::DELETE_STATE,
-        &[name(&card.name), number(card.number)],
+        texts::DELETE_STATES,
+        &[name(&range.name), number(range.first), number(range.last)],
     )
 }
 

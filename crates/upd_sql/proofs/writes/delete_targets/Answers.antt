@@ -1,6 +1,7 @@
-use Rattle.upd_sql.proofs.Common.{[], state, done, AnyTables}
-use Rattle.upd_records.specs.Changes.{TargetsGone}
-use Rattle.upd_sql.proofs.Conditions.{card_params}
+use Rattle.upd_sql.proofs.Common.{state, AnyTables}
+use Rattle.upd_shifts.specs.Ranges.{in_range, without_rows}
+use Rattle.upd_shifts.specs.declared.ranges.CardRows.TheVariants.{Targets}
+use Rattle.upd_sql.proofs.Conditions.{range_params}
 use Rattle.upd_sql.proofs.Typed.{makes_from}
 use Rattle.upd_sql.proofs.WriteTexts.{delete_targets}
 use Rattle.upd_sql.proofs.Effects.{targets_gone}
@@ -12,6 +13,6 @@ returns g c = record {
   does =
       let old = state g.S.Store c.args.tx.now.conn.now in
       let new = state g.S.Store c.run.new.tx.conn.now in
-      makes_from AnyTables (done (TargetsGone c.args.card.now [])) delete_targets (card_params c.args.card.now) old new c.run.result
-      (rw (c.name.ensures, c.number.ensures) at c.run.ensures.ran) (λ count ran it fits h. targets_gone old new count it h c.args.card.now ran);
+      makes_from AnyTables (without_rows Targets (in_range c.args.range.now)) delete_targets (range_params c.args.range.now) old new c.run.result
+      (rw (c.name.ensures, c.number.ensures, c.number-2.ensures) at c.run.ensures.ran) (λ count ran it fits h. targets_gone old new count it h c.args.range.now ran);
 }

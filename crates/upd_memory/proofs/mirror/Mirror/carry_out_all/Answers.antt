@@ -5,8 +5,8 @@ use Rattle.upd_memory.proofs.mirror.Mirror.carry_out_all.Goals as goal
 pub loop-rest-preserved : goal.loop-rest-preserved
 loop-rest-preserved c = λ rows are fit.
     let now = c.loop-rest.invariant rows are fit in
-    let part = take c.moves_ahead.result c.loop-rest.rest.now in
-    let next = next_part c.loop-rest.rest.now c.moves_ahead.result now.0 now.1.1 in
+    let part = take c.part_ahead.result c.loop-rest.rest.now in
+    let next = next_part c.loop-rest.rest.now c.part_ahead.result now.0 now.1.1 in
     let front = c.split_at.ensures.front in
     let back = c.split_at.ensures.back in
     let mid = done_all (map change_view part) now.0 in

@@ -1,5 +1,5 @@
 use Rattle.std.proofs.Common.{◌<◌, ◌≤◌, ◌-◌, length}
-use Rattle.upd_shifts.proofs.moves.moves_ahead.Given as goal
+use Rattle.upd_shifts.proofs.moves.part_ahead.Given as goal
 
 abbrev pub invariant-loop-count : goal.invariant-loop-count
 invariant-loop-count l = (0 < l.count) × (l.count ≤ length l.changes)

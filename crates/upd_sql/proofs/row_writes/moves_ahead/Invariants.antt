@@ -1,9 +1,0 @@
-use Rattle.upd_sql.proofs.Common.{◌<◌, ◌-◌, length}
-use Rattle.std.proofs.Common.{◌≤◌}
-use Rattle.upd_sql.proofs.row_writes.moves_ahead.Given as goal
-
-abbrev pub invariant-loop-count : goal.invariant-loop-count
-invariant-loop-count l = (0 < l.count) × (l.count ≤ length l.changes)
-
-abbrev pub decreases-loop-count : goal.decreases-loop-count
-decreases-loop-count l = length l.changes - l.count
