@@ -9,15 +9,19 @@ use Rattle.upd_records.specs.Changes.{shifted}
 use Rattle.upd_records.specs.Fits.{CanMove}
 use Rattle.upd_shifts.specs.declared.moves.Move.{Move}
 use Rattle.upd_shifts.specs.declared.pieces.Piece.{Piece}
-use Rattle.upd_shifts.specs.Shifts.{IsPiece, Reaches, Rises, moved_pos}
+use Rattle.upd_shifts.specs.Shifts.{IsPiece, Reaches, Rises, foot, moved_pos}
+
+from_foot : (m : Move) → foot m ≤ m.from
+from_foot m = omega arith
 
 -- moves that are all behind a position leave it
 pub stays : (ms : List Move) (last p : ℕ) → Rises last ms → p < last → moved_pos ms p ≡ p
 stays [] last p rises low = refl
 stays (m ∷ ms) last p rises low =
-    let at : last ≤ m.from = rises.0 in
+    let at : last ≤ foot m = rises.0 in
+    let up : foot m ≤ m.from = from_foot m in
     let no : nat_le m.from p ≡ false = grind (arith, nat_tests) in
-    ap (λ b. moved_pos ms (cond b (shifted m.by p) p)) no ∙ stays ms m.from p rises.1 (omega arith)
+    ap (λ b. moved_pos ms (cond b (shifted m.by p) p)) no ∙ stays ms (foot m) p rises.1 (omega arith)
 
 -- ---- distances
 
@@ -68,17 +72,18 @@ at_place (negsuc n) cut p from can is low = omega (arith, is)
 
 -- ---- pieces
 
-module _ (ms left : List Move) (m : Move) (last cut : ℕ) (piece : Piece) (can : CanMove piece.by cut) (is : shifted piece.by cut ≡ m.from)
-    (reaches : Reaches ms (m ∷ left) piece) where
-  -- what a move does not reach, no later one does
-  pub piece_made : (0 < cut → 0 < m.from) → Rises last (m ∷ left) → IsPiece ms (record { least = piece.least; below = Some cut; by = piece.by })
-  piece_made some rises p at low =
+module _ (ms left : List Move) (m : Move) (piece : Piece) (reaches : Reaches ms (m ∷ left) piece) where
+  -- what a move does not change, no later one does
+  pub piece_made : (last cut : ℕ) → CanMove piece.by cut → shifted piece.by cut ≡ foot m → (0 < cut → 0 < foot m) → Rises last (m ∷ left)
+      → IsPiece ms (record { least = piece.least; below = Some cut; by = piece.by })
+  piece_made last cut can is some rises p at low =
       sym (reaches p at)
-      ∙ stays (m ∷ left) m.from (shifted piece.by p) (omega arith, rises.1) (before_place piece.by cut p m.from can is some low)
+      ∙ stays (m ∷ left) (foot m) (shifted piece.by p) (omega arith, rises.1) (before_place piece.by cut p (foot m) can is some low)
 
   -- what a move reaches moves on
-  pub reaches_on : piece.least ≤ cut → Reaches ms left (record { least = cut; below = None; by = piece.by +ℤ m.by })
-  reaches_on up p at =
+  pub reaches_on : (cut : ℕ) → CanMove piece.by cut → shifted piece.by cut ≡ m.from → piece.least ≤ cut
+      → Reaches ms left (record { least = cut; below = None; by = piece.by +ℤ m.by })
+  reaches_on cut can is up p at =
       let hit : nat_le m.from (shifted piece.by p) ≡ true = let far = at_place piece.by cut p m.from can is at in grind (arith, nat_tests) in
       ap (moved_pos left) (shifted_twice piece.by m.by cut p can at)
       ∙ sym (ap (λ b. moved_pos left (cond b (shifted m.by (shifted piece.by p)) (shifted piece.by p))) hit)

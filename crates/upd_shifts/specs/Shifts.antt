@@ -1,5 +1,5 @@
 -- Moves of a deck's cards in order, and shifts that do the same at once.
-use Rattle.std.specs.Prelude.{◌≡◌, ℕ, ◌==◌, ◌≤◌, ◌<◌, nat_le, Bool, ◌&&◌, if◌then◌else◌, IsTrue, IfSome, List, [], ◌∷◌, map, Option, Some, None}
+use Rattle.std.specs.Prelude.{◌≡◌, ℕ, ◌+◌, ◌-◌, ℤ, pos, negsuc, ◌==◌, ◌≤◌, ◌<◌, nat_le, Bool, ◌&&◌, if◌then◌else◌, IsTrue, IfSome, List, [], ◌∷◌, map, Option, Some, None}
 use Rattle.std.specs.List.{AllByRecursion}
 use Rattle.std.specs.Str.{bytes_eq}
 use Rattle.std.specs.declared.cmp.Ordering.TheVariants.{Less}
@@ -28,10 +28,19 @@ abbrev pub moved_all : ℕ → List Move → CardRow → CardRow
 moved_all deck [] r = r
 moved_all deck (m ∷ ms) r = moved_all deck ms (moved_row deck m.from m.by r)
 
--- no move is at a place before the one of the move before it, nor before this one
+-- how far a move goes to the front
+abbrev pub forward : ℤ → ℕ
+forward (pos n) = 0
+forward (negsuc n) = n + 1
+
+-- the first place that a move changes: that of its first card, before or after it
+abbrev pub foot : Move → ℕ
+foot m = m.from - forward m.by
+
+-- no move changes a place before the first that the move before it changes, nor before this one
 abbrev pub Rises : ℕ → List Move → Type 0
 Rises last [] = Unit {0}
-Rises last (m ∷ ms) = (last ≤ m.from) × Rises m.from ms
+Rises last (m ∷ ms) = (last ≤ foot m) × Rises (foot m) ms
 
 -- the moves in order move each position of a piece as far as the piece says
 abbrev pub IsPiece : List Move → Piece → Type 0

@@ -1,11 +1,12 @@
 //! Moves of a deck's cards at rising places, as ranges of positions that move equally far: a position's is found by halving.
+//! Where cards move to the front, the positions of what was there before them are in no range: no card has them.
 
 ghost use Rattle.std.specs.Prelude.{◌≡◌, ◌≤◌, ◌<◌, ◌∷◌, ◌+ℤ◌, ℕ, List, None, Some, IfSome, IsTrue};
 ghost use Rattle.std.specs.List.{AllByRecursion};
 ghost use Rattle.upd_records.specs.Changes.{shifted};
 ghost use Rattle.upd_records.specs.Fits.{CanMove};
 ghost use Rattle.upd_shifts.specs.declared.moves.Move.{Move};
-ghost use Rattle.upd_shifts.specs.Shifts.{IsPiece, Reaches, Rises, moved_pos};
+ghost use Rattle.upd_shifts.specs.Shifts.{IsPiece, Reaches, Rises, foot, moved_pos};
 
 use crate::moves::{Move, moved};
 use std::alloc::Global;
@@ -42,16 +43,25 @@ impl Piece {
     }
 }
 
-/// Whether no move is at a place before that of the move before it.
+/// The first place that a move changes: that of its first card, before or after it.
+fn foot(m: &Move) -> u32
+    ensures { result ≡ foot m.now }
+{
+    let by = u32::try_from(m.by.min(0).unsigned_abs()).unwrap_or(u32::MAX);
+    m.from.saturating_sub(by)
+}
+
+/// Whether no move changes a place before the first that the move before it changes.
 fn are_rising(moves: &[Move]) -> bool
     ensures { IsTrue result → Rises 0 moves.now }
 {
     let mut last = 0;
     for m in moves {
-        if m.from < last {
+        let next = foot(m);
+        if next < last {
             return false;
         }
-        last = m.from;
+        last = next;
     }
     true
 }
@@ -99,8 +109,8 @@ impl Piece {
         ensures { IfSome result (λ both. (moves left : List Move) (last : ℕ) → Rises last (m.now ∷ left)
             → Reaches moves (m.now ∷ left) self.now → IsPiece moves both.0 × Reaches moves left both.1) }
     {
-        let below = self.position_at(m.from)?;
-        let after = self.on_from(below, m)?;
+        let below = self.position_at(foot(m))?;
+        let after = self.on_from(self.position_at(m.from)?, m)?;
         Some((self.up_to(below), after))
     }
 }
