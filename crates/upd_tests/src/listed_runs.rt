@@ -28,3 +28,26 @@ fn a_run_with_a_reply_that_is_not_json_is_listed(rt: HostRuntime) -> Result<(), 
     let text = run_lines(rt.alloc(), &runs)?;
     same_text("the lines", std::str::from_utf8(&text)?, LINES)
 }
+
+/// The first lines of runs, and what is said of them.
+const MESSAGES: [(&[u8], &str); 5] = [
+    (b"*/ mend the tables\n*IDENT X\n", "SITEA 9 normal refused # mend the tables\n"),
+    (b"*/no blank", "SITEA 9 normal refused #no blank\n"),
+    (b"*/\n*/ second\n", "SITEA 9 normal refused #\n"),
+    (b"*/ a\tb\x1b\r\n", "SITEA 9 normal refused # a?b??\n"),
+    (b"*IDENT X\n*/ second\n", "SITEA 9 normal refused\n"),
+];
+
+#[test]
+fn a_comment_on_the_first_line_is_a_message(rt: HostRuntime) -> Result<(), Fail> {
+    for (bytes, line) in MESSAGES {
+        let mut runs = Vec::new(rt.alloc());
+        put_runs(rt.alloc(), &mut runs, &[(9, 2, false, b"")])?;
+        for run in runs.iter_mut() {
+            run.bytes = Vec::from_slice(rt.alloc(), bytes)?;
+        }
+        let text = run_lines(rt.alloc(), &runs)?;
+        same_text("the line", std::str::from_utf8(&text)?, line)?;
+    }
+    Ok(())
+}

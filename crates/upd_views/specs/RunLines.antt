@@ -1,11 +1,12 @@
 -- One line for each stored run: its site, number and mode, and what its reply says.
-use Rattle.std.specs.Prelude.{ℕ, Bool, if◌then◌else◌, List, [], ◌∷◌, ◌++◌, codes, decimal, Option, None, option_and_then}
-use Rattle.std.specs.List.{flat_map}
+use Rattle.std.specs.Prelude.{ℕ, Bool, if◌then◌else◌, List, [], ◌∷◌, ◌++◌, ◌==◌, codes, decimal, drop, get_or, Option, None, option_and_then}
+use Rattle.std.specs.List.{flat_map, slice_split}
 use Rattle.std.specs.Option.{option_map_or}
 use Rattle.std.specs.Str.{is_utf8}
 use Rattle.serde_json.specs.Data.{Data, null, boolean, number, string, array, object, Items, no_items, item}
 use Rattle.serde_json.specs.Find.{as_array, get}
 use Rattle.serde_json.specs.Read.{read}
+use Rattle.upd_text.specs.Lines.{is_comment}
 use Rattle.upd_records.specs.Rows.{RunView, mode_word}
 use Rattle.upd_views.specs.Printed.{printed_field}
 
@@ -39,9 +40,21 @@ refusal_said value = option_map_or word_of (option_and_then (get (codes "name"))
 abbrev pub outcome : Bool → Option Data → List ℕ
 outcome accepted value = if accepted then codes " accepted" ++ idents_said value else refusal_said value
 
+-- the first line of a run
+abbrev pub first_line : List ℕ → List ℕ
+first_line run = get_or (slice_split (λ b. b == 10) run) 0 []
+
+-- the message of a run: its first line where that is a comment, without the `*/`
+abbrev pub message : List ℕ → List ℕ
+message run = if is_comment (first_line run) then codes " #" ++ printed_field (drop 2 (first_line run)) else []
+
+-- the site of a run, its number and its mode
+abbrev pub key_words : RunView → List ℕ
+key_words r = printed_field r.site ++ 32 ∷ decimal r.number ++ 32 ∷ mode_word r.mode
+
 -- the line of a run
 abbrev pub run_line : RunView → List ℕ
-run_line r = printed_field r.site ++ 32 ∷ decimal r.number ++ 32 ∷ mode_word r.mode ++ outcome r.accepted (said r.reply) ++ 10 ∷ []
+run_line r = key_words r ++ outcome r.accepted (said r.reply) ++ message r.bytes ++ 10 ∷ []
 
 -- the lines of runs in order
 abbrev pub run_lines : List RunView → List ℕ

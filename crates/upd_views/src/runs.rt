@@ -2,8 +2,8 @@
 
 ghost use Rattle.std.specs.Prelude.{◌≡◌, ◌++◌, IfOk, OnOk, option_map};
 ghost use Rattle.serde_json.specs.View.{items_view, view};
-ghost use Rattle.upd_views.specs.RunLines.{idents_said, outcome, refusal_said, run_line, run_lines, said};
-ghost use Rattle.upd_views.specs.RunLines.{word_of, words_of};
+ghost use Rattle.upd_views.specs.RunLines.{first_line, idents_said, key_words, message, outcome, refusal_said, run_line};
+ghost use Rattle.upd_views.specs.RunLines.{run_lines, said, word_of, words_of};
 
 use crate::printing::push_field;
 use itoa::Buffer;
@@ -11,9 +11,10 @@ use serde_json::Value;
 use std::alloc::{AllocError, Global};
 use upd_compile::text_parts::push_parts;
 use upd_records::{RunRow, mode_word};
+use upd_text::line::{is_comment, split_once};
 
 /// The lines of runs, in the order in which they come: site, number, mode, and `accepted` with the idents that the run
-/// introduced, or the name of its refusal.
+/// introduced, or the name of its refusal; and its message, a comment on its first line.
 pub fn run_lines(alloc: Global, runs: &[RunRow]) -> Result<Vec<u8>, AllocError>
     ensures { IfOk result (λ text. text.items ≡ run_lines runs.now) }
 {
@@ -28,12 +29,19 @@ fn push_run(alloc: Global, text: &mut Vec<u8>, run: &RunRow) -> Result<(), Alloc
     ensures { OnOk result (text.new.items ≡ text.old.items ++ run_line run.now) }
 {
     let value = said(alloc, &run.reply)?;
+    push_key(text, run)?;
+    push_outcome(text, run.accepted, value.as_ref())?;
+    push_message(text, &run.bytes)?;
+    text.extend_from_slice(b"\n")
+}
+
+fn push_key(text: &mut Vec<u8>, run: &RunRow) -> Result<(), AllocError>
+    ensures { OnOk result (text.new.items ≡ text.old.items ++ key_words run.now) }
+{
     push_field(text, run.site.as_bytes())?;
     text.extend_from_slice(b" ")?;
     text.extend_from_slice(Buffer::new().format(run.number).as_bytes())?;
-    push_parts(text, &[b" ", mode_word(run.mode)])?;
-    push_outcome(text, run.accepted, value.as_ref())?;
-    text.extend_from_slice(b"\n")
+    push_parts(text, &[b" ", mode_word(run.mode)])
 }
 
 /// The value of a reply, where it is one.
@@ -105,5 +113,26 @@ fn push_word(text: &mut Vec<u8>, value: &Value) -> Result<(), AllocError>
             push_field(text, word.as_bytes())
         }
         None => Ok(()),
+    }
+}
+
+fn push_message(text: &mut Vec<u8>, run: &[u8]) -> Result<(), AllocError>
+    ensures { OnOk result (text.new.items ≡ text.old.items ++ message run.now) }
+{
+    let line = first_line(run);
+    if is_comment(line) {
+        text.extend_from_slice(b" #")?;
+        push_field(text, &line[2..])
+    } else {
+        Ok(())
+    }
+}
+
+fn first_line(run: &[u8]) -> &[u8]
+    ensures { result.now ≡ first_line run.now }
+{
+    match split_once(run, b'\n') {
+        Some((line, _)) => line,
+        None => run,
     }
 }

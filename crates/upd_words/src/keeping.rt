@@ -172,8 +172,9 @@ const RUNS: Text = Text {
     about: "Lists the stored runs, by site and number",
     more: "\
 Reads nothing, and writes a line for each stored run: the site, the number, the mode, and `accepted`
-with the idents that the run introduced, or the name of its refusal. Changes nothing. A settled run
-is no longer stored.
+with the idents that the run introduced, or the name of its refusal; then ` # ` and its message,
+where its first line is a comment, as `*/ mend the tables`. Changes nothing. A settled run is no
+longer stored.
 
 Exit status: 0 done; 2 the command line can't be read; 3 out of memory, or the library or a write
 failed. The fault is one line on standard error.
