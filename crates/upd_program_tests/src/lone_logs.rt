@@ -81,3 +81,17 @@ fn a_library_is_made_after_a_killed_init(rt: HostRuntime) -> Result<(), Fail> {
     is_made_over(&rt, b"")?;
     is_made_over(&rt, b"\0")
 }
+
+/// A file of one byte that `init` never leaves is somebody's.
+#[test]
+fn no_library_is_made_over_a_letter(rt: HostRuntime) -> Result<(), Fail> {
+    const REFUSED: &[Step<'_>] = &[Step::Answers("init", &[], "", NO_LIBRARY)];
+    let file = library(&rt, "letter")?;
+    fs::write(&rt, file.as_str(), b"x")?;
+    take_all(&rt, &file, REFUSED)?;
+    holds(
+        "the letter",
+        fs::read(&rt, file.as_str())?.as_slice() == b"x",
+    )?;
+    remove(&rt, &file)
+}

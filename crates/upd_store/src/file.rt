@@ -135,15 +135,36 @@ fn make_private(rt: &HostRuntime, path: &str) -> Result<(), Fault>
     }
 }
 
-/// Store at 0 where the file at a path is another user's, who could read and change what is put into it.
+/// Store at 0 where the file at a path is another user's, who could read and change what is put into it, and where it has text.
 fn refuse_foreign(rt: &HostRuntime, path: &str) -> Result<(), Fault>
     ensures lost { IfErr result IsLost }
 {
     match is_foreign_file(rt, path) {
-        Ok(false) => Ok(()),
+        Ok(false) => refuse_text(rt, path),
         Ok(true) => Err(store_at(0)),
         Err(error) => Err(file_fault(error)),
     }
+}
+
+/// Store at 0 where a file's first byte is neither 0, as in one whose making was cut off, nor that of a file of SQLite.
+fn refuse_text(rt: &HostRuntime, path: &str) -> Result<(), Fault>
+    ensures lost { IfErr result IsLost }
+{
+    match first_byte(rt, path) {
+        Ok(None | Some(0 | b'S')) => Ok(()),
+        Ok(Some(_)) => Err(store_at(0)),
+        Err(error) => Err(file_fault(error)),
+    }
+}
+
+/// The first byte of a file, if it has one. What is no file is not opened: that could wait for ever.
+fn first_byte(rt: &HostRuntime, path: &str) -> io::Result<Option<u8>> {
+    if !fs::metadata(rt, path)?.is_file() {
+        return Ok(None);
+    }
+    let mut first = [0u8; 1];
+    let count = fs::open(rt, path)?.read(&mut first)?;
+    Ok((count == 1).then_some(first[0]))
 }
 
 /// Whether SQLite reads a path as something else than a file's name.
