@@ -24,6 +24,8 @@ mod migrated;
 #[cfg(test)]
 mod migration_crashes;
 #[cfg(test)]
+mod moved_places;
+#[cfg(test)]
 mod older_files;
 #[cfg(test)]
 mod once_opened;
