@@ -9,8 +9,8 @@
 # what others have sent meanwhile stays. Where a purge has taken cards of that text away, no run is made, since it would bring
 # them back. It is shown with the warnings of `upd try-at`. If you say yes, it is sent as the next run of SITE, in MODE (quick
 # unless it is given), and the reply is printed. Where others have changed the same lines meanwhile, it is not stored, and you are
-# asked again. What needs more lines than a run has is sent as several. The run's set is SET, or SITE with the run's number, as
-# LYON7. UPD is the program (`upd` unless it is set).
+# asked again. What needs more lines than a run has is sent as several, and you are asked again before the first. The run's set is
+# SET, or SITE with the run's number, as LYON7. UPD is the program (`upd` unless it is set).
 #
 #     -m MESSAGE    what the run is for, at most 77 bytes: its first line, as a comment. Asked for at a terminal.
 #     --list LIST   edits the files of the tree, by their own names, as tree.sh writes them, and sends them as put.sh does: lines are
@@ -28,9 +28,8 @@
 set -u
 export LC_ALL=C
 
-say() {
-    printf '%s: %s\n' "${0##*/}" "$*" >&2
-}
+for common in "$(dirname -- "$0")/common.sh" "$(dirname -- "$0")/upd-common"; do [ ! -r "$common" ] || break; done
+. "$common" || exit 3
 
 usage() {
     say "usage: ${0##*/} [--mode MODE] [--set SET] [--list LIST] [-m MESSAGE] FILE SITE DECK..; a site is 1 to 8 of A-Z and 0-9"
@@ -61,21 +60,13 @@ while [ $# -gt 0 ]; do
 done
 [ $# -ge 3 ] || usage
 [ -z "$list" ] || [ -z "$set" ] || usage
-case $2 in
-'' | *[!A-Z0-9]* | ?????????*) usage ;;
-esac
-case $mode in
-full | quick | normal) ;;
-*) usage ;;
-esac
-case $message in
-*[!\ -~]*) usage ;;
-esac
-[ ${#message} -le 77 ] || usage
-library=$1 site=$2 upd=${UPD:-upd} number='' sent='' editor=${VISUAL:-${EDITOR:-vi}}
+library=$1 site=$2 upd=${UPD:-upd} sent='' editor=${VISUAL:-${EDITOR:-vi}}
 shift 2
+check_words
+again='the text has to be taken again'
 
 work=$(mktemp -d) || exit 3
+runs=$work/runs
 
 # Whether a text is not as it was taken.
 is_edited() {
@@ -93,48 +84,26 @@ leave() {
 trap leave EXIT
 trap 'exit 3' HUP INT TERM
 
-# A word as a shell reads it.
-quoted() {
-    printf "'%s'" "$(printf %s "$1" | sed "s/'/'\\\\''/g")"
-}
-
-fail() {
-    say "what is wrong with $library? ask: $(quoted "$upd") examine -- $(quoted "$library")"
-    exit 3
-}
-
-# A command of upd. A refusal gives 1, and anything else ends the script.
-ask() {
-    "$upd" "$@" || {
-        [ $? -eq 1 ] || fail
-        return 1
-    }
-}
-
-# The library's youngest ident.
-youngest() {
-    ask idents -- "$library" >"$work/idents" && grep -v ' purged$' "$work/idents" | tail -n 1 | cut -d ' ' -f 2
-}
-
 # Takes a deck's text as it was when the ident SINCE was the youngest.
 take() {
-    ask text-at -- "$library" "$1" "$since" >"$2.part" || exit 1
+    ask text-at -- "$library" "$1" "$since" >"$2.part" || {
+        cat "$work/faults" >&2
+        exit 1
+    }
     printf '%s\n' "$1" >"$2.deck" && cp "$2.part" "$2.txt" && mv "$2.part" "$2.taken" || exit 3
 }
 
 # Whether the library still gives a text as it was taken. Only a purge can change it.
 is_current() {
     name=$(cat "${1%.txt}.deck") || exit 3
-    ask text-at -- "$library" "$name" "$since" >"$work/now" || return 1
-    cmp -s "$work/now" "${1%.txt}.taken" || {
-        say "cards of $name were purged since its text was taken: edit it again, and put your changes in"
-        return 1
-    }
+    if ask text-at -- "$library" "$name" "$since" >"$work/now" && cmp -s "$work/now" "${1%.txt}.taken"; then return; fi
+    say "cards of $name were purged since its text was taken: edit it again, and put your changes in"
+    return 1
 }
 
 # Makes the run of the set from the texts, each as of SINCE: one run, since no deck's corrections name another's cards.
 correct() {
-    rm -rf "$work/runs" && mkdir "$work/runs" && : >"$work/run" || exit 3
+    rm -rf "$runs" && mkdir "$runs" && : >"$work/run" || exit 3
     from=1
     for text; do
         [ -f "$text" ] || {
@@ -142,12 +111,12 @@ correct() {
             return 1
         }
         is_current "$text" || return 1
-        ask correct-at -- "$library" "$set" "$since" <"$text" >"$work/part" 2>"$work/problems" || {
-            if grep -q '^TooManyLines\|^RunLong' "$work/problems"; then
+        ask correct-at -- "$library" "$set" "$since" <"$text" >"$work/part" || {
+            if grep -q '^TooManyLines\|^RunLong' "$work/faults"; then
                 cut_texts "$@"
                 return
             fi
-            cat "$work/problems" >&2
+            cat "$work/faults" >&2
             say "${text##*/} is refused"
             return 1
         }
@@ -155,124 +124,83 @@ correct() {
         if [ -s "$work/part" ]; then from=2; fi
     done
     if [ ! -s "$work/run" ]; then return; fi
-    { [ -z "$message" ] || printf '*/ %s\n' "$message"; } >"$work/runs/$number" && cat "$work/run" >>"$work/runs/$number" || exit 3
-    if [ "$(wc -l <"$work/runs/$number")" -gt 2000 ] || [ "$(wc -c <"$work/runs/$number")" -gt 65536 ]; then cut_texts "$@"; fi
+    begin "$set" "$number" && cat "$work/run" >>"$run/run" || exit 3
+    if [ "$(wc -l <"$run/run")" -le 2000 ] && [ "$(wc -c <"$run/run")" -le 65536 ]; then return; fi
+    number=$first && rm -rf "$run" && cut_texts "$@"
 }
 
-# Makes several runs, in a copy from which all is purged that came after SINCE.
 cut_texts() {
-    rm -rf "$work/runs" "$work/past" "$work/past-wal" && mkdir "$work/runs" && ask backup -- "$library" "$work/past" || exit 3
-    later=$(awk -v since="$since" 'on && $NF != "purged" { print $2; exit } $2 == since && $NF != "purged" { on = 1 }' "$work/idents")
-    if [ -n "$later" ]; then printf '*PURGE %s,*\n' "$later" | ask run -- "$work/past" "$site" "$number" quick >"$work/reply" || exit 3; fi
-    cat "$@" | ask correct-parts -- "$work/past" "$(printf "%.$((7 - ${#number}))s" "$site")$number" "$site" "$number" "$mode" >"$work/spool" || {
+    cat "$@" >"$work/text" && cut_text "$library" "$work/text" || {
+        cat "$work/faults" >&2
         say "the texts are refused"
         return 1
     }
-    awk -v folder="$work/runs" '
-        left <= 0 && $1 == "RUN" { left = $5; file = folder "/" $3; next }
-        left > 0 { print > file; left -= length($0) + 1; if (left <= 0) close(file) }' "$work/spool" || exit 3
 }
 
-# The site's next number, and, unless it was given, a name for the set that nothing has.
-choose() {
-    ask sites -- "$library" >"$work/sites" && ask idents -- "$library" >"$work/idents" || exit 3
-    number=$(sed -n "s/^$site [0-9]* [0-9]* \\([^ ]*\\) .*/\\1/p" "$work/sites")
-    number=${number:-1}
-    if [ "$number" = none ]; then
-        say "$site has no number left"
-        exit 1
-    fi
-    [ -z "$given" ] || return 0
-    count=$number
-    while
-        set=$(printf "%.$((9 - ${#count}))s%s" "$site" "$count")
-        grep -v ' purged$' "$work/idents" | cut -d ' ' -f 2 | grep -qxF -e "$set"
-    do count=$((count + 1)); done
-}
-
-# Asks for a message, once.
-ask_message() {
-    while [ -z "$asked" ] && [ -t 0 ]; do
-        printf 'what is this edit for? (a line of at most 77 bytes, or none) ' >&2
-        read -r message || message=''
-        case $message in
-        *[!\ -~]*) ;;
-        *) if [ ${#message} -le 77 ]; then asked=1; fi ;;
-        esac
-    done
-}
-
-# Makes the run and shows it with what it would be answered. A run that can't be sent gives 1.
+# Makes the runs and shows them with what they would be answered. What can't be sent gives 1.
 show() {
     ask_message
-    choose
+    next_number "$library"
+    ask idents -- "$library" >"$work/idents" && cp "$work/idents" "$work/held" || exit 3
+    if ! is_held "$since" "$serial"; then
+        say "$since, the youngest ident when the text was taken, was purged: $again"
+        exit 1
+    fi
+    if [ -n "$given" ]; then set=$given; else name_set 9 ''; fi
+    first=$number
     correct "$@" || return 1
-    if [ -z "$(ls "$work/runs")" ]; then
+    if [ -z "$(ls "$runs")" ]; then
         say "nothing is changed"
         return 1
     fi
-    last=$(ls "$work/runs" | sort -n | tail -n 1)
-    if [ "$last" != "$number" ]; then
-        cat "$work/spool"
-        return
-    fi
-    "$upd" try-at -- "$library" "$mode" "$since" <"$work/runs/$number" >"$work/reply" 2>"$work/faults"
-    status=$?
-    sed '/^upd: 1: dropped comments: 1, /d' "$work/faults" >"$work/warnings"
-    case $status in
-    0) ;;
-    1)
-        cat "$work/runs/$number" "$work/reply" "$work/warnings" >&2
+    look "$runs/$first" || exit 1
+    if [ "$last" = "$first" ] && [ "$refused" -ne 0 ]; then
+        cat "$runs/$first/run" "$work/reply" "$work/warnings" >&2
         return 1
-        ;;
-    *)
-        cat "$work/warnings" >&2
-        fail
-        ;;
-    esac
-    cat "$work/runs/$number"
+    fi
+    show_runs
     cat "$work/warnings" >&2
 }
 
-# Shows who switched the cards that the conflicts of `run-at` name, and those beside.
-show_conflicts() {
-    tr -c 'A-Z0-9+*/()$=.\n-' '\n' <"$work/warnings" | grep '^[^.]*[^.]\.[1-9][0-9]*$' | sort -u >"$work/cards"
+show_runs() {
+    for part in $(ls "$runs" | sort -n); do cat "$runs/$part/run"; done
+}
+
+# Shows who switched the cards that conflicts name, and those beside, and asks. To edit again is possible before anything is sent.
+over_changes() {
+    tr -c 'A-Z0-9+*/()$=.\n-' '\n' <"$work/conflicts" | grep '^[^.]*[^.]\.[1-9][0-9]*$' | sort -u >"$work/cards"
     cat "$work"/*.deck | while IFS= read -r name; do
         ask blame -- "$library" "$name" | awk -v cards="$work/cards" '
             BEGIN { while ((getline card < cards) > 0) named[card] }
             { line[NR] = $0; if ($2 in named) near[NR - 1] = near[NR] = near[NR + 1] = 1 }
             END { for (i = 1; i <= NR; i++) if (i in near) print line[i] }' >&2
     done
+    if [ -z "$accepted" ]; then agreed "send it over these changes? yes, edit, or no: "; else agreed "send the rest over these changes? yes, or no: "; fi
+    answered=$?
+    return "$answered"
 }
 
-# Sends the runs, each as of what it was made against. Where the first meets changes of others, it is not stored: that gives 1.
+# Sends the runs. Returns where it is to be edited again.
 send() {
-    for part in $(ls "$work/runs" | sort -n); do
-        run=$work/runs/$part
-        "$upd" run-at -- "$library" "$site" "$part" "$mode" "$as_of" <"$run" >"$work/reply" 2>"$work/warnings"
-        status=$?
-        cat "$work/warnings" >&2
-        case $status in
-        0) sent=1 && cat "$work/reply" ;;
-        1)
-            if [ -s "$work/reply" ] || ! grep -q '^upd: [0-9]*: ' "$work/warnings"; then # a refusal, and no conflict
-                cat "$work/reply"
-                exit 1
-            fi
-            show_conflicts
-            [ "$part" != "$number" ] || return 1
-            say "the runs before $part are accepted; the rest is in $work/runs"
-            sent=''
-            exit 1
+    for each in $(ls "$runs" | sort -n); do
+        send_run "$runs/$each"
+        case $? in
+        0)
+            cat "$work/reply"
+            continue
             ;;
-        *)
+        1) cat "$work/reply" ;;
+        3) if [ "$answered" -eq 2 ]; then return; fi ;;
+        4)
             say "no answer: the run may have arrived; send the same again:"
-            say "$(quoted "$upd") run-at -- $(quoted "$library") $site $part $mode $as_of < $(quoted "$run")"
+            say "$(quoted "$upd") run-at -- $(quoted "$library") $site $each $mode ${now% *} < $(quoted "$runs/$each/run")"
             exit 3
             ;;
         esac
-        as_of=$(sed -n 's/^\*IDENT //p' "$run")
+        [ -z "$accepted" ] || say "the sets $accepted are accepted, and the rest is in $runs. To take them back, yank them"
+        exit 1
     done
+    sent=1
     exit 0
 }
 
@@ -289,31 +217,6 @@ open_editor() {
         say "nothing is changed"
         exit 1
     fi
-}
-
-# Asks until one of these answers comes: yes gives 0, edit 1. No ends the script.
-agreed() {
-    while :; do
-        printf '%s' "$1" >&2
-        read -r answer || answer=no
-        case $answer,$1 in
-        y,s* | yes,s*) return 0 ;;
-        e,* | edit,*) return 1 ;;
-        n,* | no,*) exit 1 ;;
-        esac
-    done
-}
-
-# A script of this folder, as it is there or as it is installed.
-script() {
-    for found in "$(dirname -- "$0")/$1.sh" "$(dirname -- "$0")/upd-$1"; do
-        if [ -r "$found" ]; then
-            printf '%s\n' "$found"
-            return
-        fi
-    done
-    say "$found is not there"
-    exit 3
 }
 
 # The decks that are named, by deck or path, with their lines in LIST.
@@ -349,6 +252,7 @@ edit_files() {
         [ "$status" -ne 0 ] || break
         [ "$status" -eq 1 ] || exit "$status"
         agreed "edit again? edit, or no: "
+        [ $? -eq 2 ] || exit 1
     done
     sent=1
     awk -v new="$work/list" '
@@ -360,7 +264,8 @@ edit_files() {
 
 if [ -n "$list" ]; then edit_files "$@"; fi
 given=$set count=0
-since=$(youngest) || exit $?
+since=$(youngest "$library") || exit 3
+serial=${since#* } since=${since% *}
 [ -n "$since" ] || {
     say "the library has no decks"
     exit 1
@@ -379,14 +284,13 @@ set -- "$work"/*.txt # and no file that the editor leaves beside them
 
 while :; do
     open_editor "$@"
+    question="edit again? edit, or no: "
     if show "$@"; then
-        as_of=$since
-        question="send it as run $number of $site? yes, edit, or no: "
-    else
-        question="edit again? edit, or no: "
+        question="send it as $names of $site? yes, edit, or no: "
     fi
-    while agreed "$question"; do
-        send || as_of=$(youngest) || exit $?
-        question="send it over these changes? yes, edit, or no: "
-    done
+    agreed "$question"
+    case $? in
+    0) send ;;
+    1) exit 1 ;;
+    esac
 done

@@ -5,13 +5,14 @@
 #
 # LIST and FOLDER are as bring.sh or `tree.sh --list` made them. Each file of LIST that is not as the library has it is corrected
 # in its deck, against the deck as it was when LIST was noted: so what others have sent meanwhile stays. It then comes into FOLDER,
-# too. Only a purge isn't seen: what a file that you changed still has of the purged cards is put in again. So let FOLDER be a tree of yours, or a release whose decks nobody else corrects. NEW are files in FOLDER that become decks, by
-# bring.sh. FILE is the library; no command may have it open. The runs are the next ones of SITE, and their sets are named by SITE
-# and the run's number, as LYON7. A file that needs more lines than a run has is corrected by several. UPD is the program (`upd`
-# unless it is set).
+# too. Only a purge isn't seen: what a file that you changed still has of the purged cards is put in again; and after a purge of the
+# ident that LIST notes, a changed file has to be made again, by `tree.sh --list`, and your changes in it. So let FOLDER be a tree of
+# yours, or a release whose decks nobody else corrects. NEW are files that become decks, by bring.sh: their paths in FOLDER. FILE is
+# the library; no command may have it open. The runs are the next ones of SITE, and their sets are named by SITE and the run's
+# number, as LYON7. A file that needs more lines than a run has is corrected by several. UPD is the program (`upd` unless it is set).
 #
 # What each run corrects is shown before you are asked. A run is sent by `upd run-at`: where others have changed the same lines
-# meanwhile it is not stored, and you are asked again.
+# meanwhile it is not stored, and you are asked again; of several runs for a file before the first of them is sent.
 #
 #     --c           all files are made to fit as by bring.sh, also where LIST doesn't say so yet
 #     --gone        takes the decks out of use whose files are gone from FOLDER, and removes them from LIST
@@ -19,20 +20,21 @@
 #     --mode MODE   the mode of the runs: full, normal, or quick, which it is else
 #     -m MESSAGE    what the runs are for, at most 77 bytes: their first line, as a comment. Asked for at a terminal.
 #
-# While it sends, LIST.put has the runs. After a kill, or where no answer came, start it again: it sends the same runs first.
+# While it sends, LIST.put has the runs. After a kill, or where no answer came, start it again: it sends the same runs first. Where a
+# file needs several runs, and only the first are accepted, LIST.put stays: start it again to send the rest, or yank their sets, which
+# it names, and then remove LIST.put.
 #
 # Exit status:
 #   0  all runs are accepted, or nothing was changed
-#   1  a run was refused, or not sent as you said no, or a file can't be read or a line of it be a card: each is named. The others
-#      that were accepted are in the library and in LIST
+#   1  a run was refused, or not sent as you said no or an ident was purged, or a file can't be read or a line of it be a card: each
+#      is named. The others that were accepted are in the library and in LIST, or, of a file that needs several, in LIST.put
 #   2  the words can't be read
 #   3  something else failed, as a command or the disk
 set -u
 export LC_ALL=C
 
-say() {
-    printf '%s: %s\n' "${0##*/}" "$*" >&2
-}
+for common in "$(dirname -- "$0")/common.sh" "$(dirname -- "$0")/upd-common"; do [ ! -r "$common" ] || break; done
+. "$common" || exit 3
 
 usage() {
     say "usage: ${0##*/} [--c] [--gone] [--yes] [--mode MODE] [-m MESSAGE] FILE SITE LIST FOLDER [NEW..]; a site is 1 to 8 of A-Z and 0-9"
@@ -60,51 +62,29 @@ while [ $# -gt 0 ]; do
     shift
 done
 [ $# -ge 4 ] || usage
-case $2 in
-'' | *[!A-Z0-9]* | ?????????*) usage ;;
-esac
-case $mode in
-full | quick | normal) ;;
-*) usage ;;
-esac
 library=$1 site=$2 list=$3 folder=$4 upd=${UPD:-upd} result=0
 shift 4
+check_words
+again="make the tree again, by tree.sh --list $list .., and your changes in it"
 
-# A script of this folder, as it is there or as it is installed.
-script() {
-    for found in "$(dirname -- "$0")/$1.sh" "$(dirname -- "$0")/upd-$1"; do
-        if [ -r "$found" ]; then
-            printf '%s\n' "$found"
-            return
-        fi
-    done
-    say "$found is not there"
-    exit 3
-}
 bring=$(script bring) && tree=$(script tree) && cards=$(script cards) || exit 3
 if [ ! -f "$list" ] || [ ! -d "$folder" ]; then
     say "$list or $folder is not there"
     exit 3
 fi
-put=$list.put
+put=$list.put runs=$list.put asked=$asked$yes
 work=$(mktemp -d) || exit 3
 trap 'rm -rf "$work"' EXIT
 trap 'exit 3' HUP INT TERM
 export UPD="$upd"
 
-# The youngest ident of a library.
-youngest() {
-    "$upd" idents -- "$1" >"$work/idents" || exit 3
-    grep -v ' purged$' "$work/idents" | tail -n 1 | cut -d ' ' -f 2
-}
-
-# The decks of LIST: name, path, SINCE and how the file was made to fit, one a line.
+# The decks of LIST: name, path, SINCE and its serial, and how the file was made to fit, one a line.
 list_decks() {
     awk '
-        function end() { if (deck != "") print deck, path, (since == "" ? "-" : since), fit }
-        $1 == "deck" { end(); deck = $2; path = since = fit = "" }
+        function end() { if (deck != "") print deck, path, (since == "" ? "-" : since), (serial == "" ? "-" : serial), fit }
+        $1 == "deck" { end(); deck = $2; path = since = serial = fit = "" }
         $1 == "path" { path = path $2 }
-        $1 == "since" { since = $2 }
+        $1 == "since" { since = $2; serial = $3 }
         $1 == "fit" { fit = "--c" }
         END { end() }' "$list"
 }
@@ -247,48 +227,42 @@ note_run() {
     rm -rf "$1"
 }
 
-# Asks until there is an answer.
-agreed() {
-    while :; do
-        printf '%s' "$1" >&2
-        read -r answer || answer=no
-        case $answer in
-        y | yes) return 0 ;;
-        n | no) return 1 ;;
-        s | show) cat "$put"/*/run ;;
-        esac
-    done
+over_changes() {
+    agreed "send $names over these changes? yes, show or no: "
 }
 
-# Sends a run, in a folder of LIST.put, and notes it.
+# Sends a run, in a folder of LIST.put, and notes it. Where others of its edit are accepted and it isn't, LIST.put has to stay: without
+# it they would be sent again.
 send() {
-    number=${1##*/} since=$(cat "$1/since")
-    while :; do
-        "$upd" run-at -- "$library" "$sent_as" "$number" "$sent_mode" "$since" <"$1/run" >"$work/reply" 2>"$work/faults"
-        status=$?
-        cat "$work/faults" >&2
-        if [ "$status" -eq 0 ]; then
-            say "run $number of $sent_as is accepted"
-            tr ' ' '\n' <"$1/sets" >>"$work/ours"
-            note_run "$1"
-            return
-        elif [ "$status" -ne 1 ]; then
-            say "run $number of $sent_as has no answer: start it again"
-            exit 3
-        fi
-        cat "$work/reply" >&2
-        since=$(youngest "$library") || exit 3
-        if [ ! -s "$work/reply" ] && grep -q '^upd: [0-9]*: ' "$work/faults" && agreed "send run $number over these changes? yes, show or no: "; then continue; fi
-        rm -rf "$put" # it is refused, or not to be sent
-        exit 1
-    done
+    send_run "$1"
+    case $? in
+    0)
+        say "run $number of $site is accepted"
+        sed -n 's/^\*IDENT //p' "$1/run" >>"$work/ours"
+        note_run "$1"
+        return
+        ;;
+    1) cat "$work/reply" >&2 ;;
+    4)
+        say "run $number of $site has no answer: start it again"
+        exit 3
+        ;;
+    esac
+    if [ -z "$accepted" ]; then
+        rm -rf "$put"
+    else
+        say "run $number of $site is not accepted, but the sets before it are: $accepted. Start it again to send the rest;"
+        say "or take them back by a run that yanks them, and only then remove $put"
+    fi
+    exit 1
 }
 
 # Sends all that LIST.put has, first the new files. As what it is sent is there too.
 send_all() {
-    read -r sent_as sent_mode <"$put/ready" || exit 3
+    asked_site=$site asked_mode=$mode
+    read -r site mode <"$put/ready" || exit 3
     if [ -e "$put/spool" ]; then
-        "$upd" spool "$library" <"$put/spool" >"$work/answers" || exit 3
+        ask spool "$library" <"$put/spool" >"$work/answers" || exit 3
         if grep -v '"state":"accepted"}$' "$work/answers" >&2; then
             rm -rf "$put"
             exit 1
@@ -296,8 +270,9 @@ send_all() {
         sed -n -e 's/^deck //p' -e 's/^part \([^ ]*\) .*/\1/p' "$put/list" >>"$work/ours"
         cat "$put/list" >>"$list" && rm -f "$put/spool" || exit 3
     fi
-    for name in $(ls "$put" | grep '^[1-9][0-9]*$' | sort -n); do send "$put/$name"; done
+    for each in $(ls "$put" | grep '^[1-9][0-9]*$' | sort -n); do send "$put/$each"; done
     rm -rf "$put"
+    site=$asked_site mode=$asked_mode
 }
 
 if [ -e "$put/ready" ]; then
@@ -311,121 +286,54 @@ mkdir -- "$put" || {
     exit 3
 }
 trap 'rm -rf "$work"; [ -e "$put/ready" ] || rm -rf "$put"' EXIT
-is_plain() {
-    case $message in
-    *[!\ -~]*) return 1 ;;
-    esac
-    [ ${#message} -le 77 ]
-}
-while [ -z "$asked$yes" ] && [ -t 0 ]; do
-    printf 'what are these changes for? (a line of at most 77 bytes, or none) ' >&2
-    read -r message || message=''
-    if is_plain; then asked=1; fi
-done
-is_plain || usage
+ask_message
 
 # The library as it is now, from which all is made, and its tree.
 copy=$work/copy
-"$upd" backup -- "$library" "$copy" && "$upd" init "$work/empty" && "$upd" sites -- "$copy" >"$work/sites" || exit 3
-start=$(youngest "$copy") && list_decks >"$work/decks" || exit 3
+ask backup -- "$library" "$copy" && ask init "$work/empty" && start=$(youngest "$copy") && list_decks >"$work/decks" || exit 3
+next_number "$copy"
 cp "$work/idents" "$work/held" && cp "$work/idents" "$work/before" && sh "$tree" "$copy" "$work/tree" <"$list" || [ $? -eq 1 ] || exit 3
-number=$(sed -n "s/^$site [0-9]* [0-9]* \\([^ ]*\\) .*/\\1/p" "$work/sites")
-number=${number:-1} run='' unfit=0 deck_count=0
-if [ "$number" = none ]; then
-    say "$site has no number left"
-    exit 1
-fi
-
-# A name for the set of the next run, that nothing has.
-name_set() {
-    count=$number
-    while
-        set=$(printf "%.$((9 - ${#count}))s%s" "$site" "$count")
-        grep -v ' purged$' "$work/held" | cut -d ' ' -f 2 | grep -qxF -e "$set"
-    do count=$((count + 1)); done
-}
-
-# Begins a run in LIST.put, of sets, as of an ident.
-begin() {
-    run=$put/$number
-    mkdir -- "$run" && printf '%s\n' "$1" >"$run/sets" && printf '%s\n' "$2" >"$run/since" || exit 3
-    if [ -n "$message" ]; then printf '*/ %s\n' "$message"; fi >"$run/run" || exit 3
-    number=$((number + 1))
-}
-
-# How old an ident is.
-serial() {
-    awk -v name="$1" '$2 == name && $NF != "purged" { print $1 }' "$work/held"
-}
+run='' unfit=0 deck_count=0
 
 # Puts a deck's lines into the run that is made, or into the next one: a run is as of one ident, and else would meet earlier runs of
 # this script. The deck's cards, notes and file are kept with the run.
 add_deck() {
-    deck=$1 since=$3
-    if [ -n "$run" ] && [ "$(cat "$run/since")" != "$since" ]; then run=''; fi
-    [ -n "$run" ] || name_set
+    if [ -n "$run" ] && [ "$(cat "$run/since")" != "$since $serial" ]; then run=''; fi
+    [ -n "$run" ] || name_set 9 ''
     correct_deck || return
     if [ -n "$run" ] && [ "$(cat "$run/run" "$work/part" | wc -l)" -gt 1999 ] || [ "$(cat ${run:+"$run/run"} "$work/part" | wc -c)" -gt 65400 ]; then
         run=''
-        name_set
+        name_set 9 ''
         correct_deck || return
     fi
     if [ -z "$run" ]; then
-        begin "$set" "$since"
+        begin "$set" "$number"
         cat "$work/part" >>"$run/run" || exit 3
     else
         tail -n +2 "$work/part" >>"$run/run" || exit 3
     fi
-    keep_deck "$deck" "$2"
+    keep_deck
     say "$path, the deck $deck: $(($(wc -l <"$work/part") - 1)) lines of run ${run##*/}"
 }
 
 # The lines that correct a deck, by the set. A deck that needs several runs gets them.
 correct_deck() {
-    "$upd" correct-at -- "$copy" "$set" "$since" <"$work/text" >"$work/part" 2>"$work/problems"
-    case $? in
-    0)
+    if ask correct-at -- "$copy" "$set" "$since" <"$work/text" >"$work/part"; then
         [ -s "$work/part" ] || printf '%s\n' "$deck" >>"$work/others"
         [ -s "$work/part" ]
-        ;;
-    1)
-        if grep -q '^TooManyLines\|^RunLong' "$work/problems"; then cut_deck; else refuse_deck; fi
-        return 1
-        ;;
-    *)
-        cat "$work/problems" >&2
-        exit 3
-        ;;
-    esac
-}
-
-refuse_deck() {
-    cat "$work/problems" >&2
-    say "$path, the deck $deck, is refused"
-    unfit=1
-}
-
-# Corrects a deck in parts, in a copy from which all is purged that came after SINCE.
-cut_deck() {
-    rm -f "$work/past" "$work/past-wal" && "$upd" backup -- "$copy" "$work/past" || exit 3
-    later=$(awk -v first="$(serial "$since")" '$1 > first && $NF != "purged" { print $2; exit }' "$work/held")
-    if [ -n "$later" ]; then printf '*PURGE %s,*\n' "$later" | "$upd" run -- "$work/past" "$site" "$number" quick >"$work/reply" || exit 3; fi
-    first=$number part='' letters=$(printf "%.$((7 - ${#number}))s" "$site")$number
-    "$upd" correct-parts -- "$work/past" "$letters" "$site" "$number" "$mode" <"$work/text" >"$work/spool" 2>"$work/problems" || {
-        refuse_deck
         return
-    }
-    rm -rf "$work/frames" && mkdir "$work/frames" && awk -v folder="$work/frames" '
-        left <= 0 && $1 == "RUN" { left = $5; file = folder "/" $3; next }
-        left > 0 { print > file; left -= length($0) + 1; if (left <= 0) close(file) }' "$work/spool" || exit 3
-    while part=$work/frames/$number && [ -e "$part" ]; do
-        begin "$(sed -n 's/^\*IDENT //p' "$part")" "$since"
-        cat "$part" >>"$run/run" || exit 3
-        since=$(cat "$run/sets") sets="${sets-} $since"
-    done
-    printf '%s\n' "$sets" >"$run/sets" && keep_deck "$deck" "$code"
-    say "$path, the deck $deck: runs $first to $((number - 1))"
-    run='' sets=''
+    fi
+    first=$number
+    if grep -q '^TooManyLines\|^RunLong' "$work/faults" && cut_text "$copy" "$work/text"; then
+        keep_deck
+        say "$path, the deck $deck: runs $first to $last"
+        run=''
+    else
+        cat "$work/faults" >&2
+        say "$path, the deck $deck, is refused"
+        unfit=1
+    fi
+    return 1
 }
 
 # Keeps with the run what LIST needs once it is accepted.
@@ -433,7 +341,7 @@ keep_deck() {
     deck_count=$((deck_count + 1))
     item=$run/$deck_count
     cp "$folder/$path" "$item.file" && cp "$work/cards" "$item.cards" && cp "$work/notes" "$item.notes" \
-        && printf '%s' "${c:-$fit}" >"$item.fit" && printf '%s\n' "$2" >"$item.path" && printf '%s\n' "$1" >"$item.deck" || exit 3
+        && printf '%s' "${c:-$fit}" >"$item.fit" && printf '%s\n' "$code" >"$item.path" && printf '%s\n' "$deck" >"$item.deck" || exit 3
 }
 
 : >"$work/same" && : >"$work/others" && : >"$work/gone" && : >"$work/ours" && awk '
@@ -449,7 +357,7 @@ if [ $# -gt 0 ]; then
     number=$((number + $(grep -c "^RUN $site [0-9]* quick [0-9]*\$" "$work/spool")))
     sed -n -e 's/^deck //p' -e 's/^part \([^ ]*\) .*/0 \1/p' "$put/list" | sed 's/.*/0 & set held/' >>"$work/held"
 fi
-while read -r deck code since fit <&3; do
+while read -r deck code since serial fit <&3; do
     path=$(printf '%b' "$code")
     if [ ! -e "$folder/$path" ]; then
         if [ -n "$gone" ]; then printf '%s %s\n' "$deck" "$code" >>"$work/gone"; fi
@@ -462,6 +370,10 @@ while read -r deck code since fit <&3; do
         say "LIST doesn't note as of which ident $path is: make the tree by tree.sh --list"
         unfit=1
         continue
+    elif ! is_held "$since" "$serial"; then
+        say "$path is not as the library has it, and $since was purged, the last ident that it has seen: $again"
+        unfit=1
+        continue
     fi
     sh "$cards" ${c:-$fit} --cr "$work/empty" "$folder/$path" "$work/notes" >"$work/cards"
     case $? in
@@ -472,13 +384,14 @@ while read -r deck code since fit <&3; do
         ;;
     *) exit 3 ;;
     esac
-    "$upd" text-at -- "$copy" "$deck" "$since" >"$work/base" && { sed 1q "$work/base" && cat "$work/cards"; } >"$work/text" || exit 3
-    add_deck "$deck" "$code" "$since"
+    ask text-at -- "$copy" "$deck" "$since" >"$work/base" && { sed 1q "$work/base" && cat "$work/cards"; } >"$work/text" || exit 3
+    add_deck
 done 3<"$work/order"
 [ "$unfit" -eq 0 ] || exit 1
 if [ -s "$work/gone" ]; then
-    name_set
-    begin "$set" "$start"
+    name_set 9 ''
+    since=${start% *} serial=${start#* }
+    begin "$set" "$number"
     { printf '*IDENT %s\n' "$set" && sed 's/^\([^ ]*\) .*/*YANKDECK \1/' "$work/gone"; } >>"$run/run" || exit 3
     while read -r deck code; do
         deck_count=$((deck_count + 1))
@@ -486,10 +399,8 @@ if [ -s "$work/gone" ]; then
     done <"$work/gone"
 fi
 if [ -n "$(ls "$put")" ]; then
-    for run in "$put"/*[0-9]; do
-        [ -e "$run/since" ] || continue # no deck is corrected
-        [ -z "$(serial "$(cat "$run/since")")" ] || "$upd" try-at -- "$copy" quick "$(cat "$run/since")" <"$run/run" 2>&1 >"$work/reply" | sed '/^upd: 1: dropped comments: 1, /d' >&2
-    done
+    part=$(ls "$put" | grep '^[1-9][0-9]*$' | sort -n | head -n 1)
+    while [ -e "$put/$part/run" ] && look "$put/$part"; do cat "$work/warnings" >&2; done # of an edit; part is then the next one's first run
     if [ -z "$yes" ] && ! agreed "send these runs? yes, show or no: "; then exit 1; fi
     printf '%s %s\n' "$site" "$mode" >"$put/ready" || exit 3
     send_all

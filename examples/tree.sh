@@ -21,7 +21,7 @@
 #
 #     deck NAME            begins a deck
 #     path PATH            its file in FOLDER; several lines are one path; \0 and three octal digits are a byte
-#     since IDENT          the ident that was youngest when the file was that of the deck
+#     since IDENT SERIAL   the ident that was youngest when the file was that of the deck, and its serial, if that was known
 #     fit c                the file was made to fit by `--c`
 #     mode OOO             the file's rights, where they aren't 644
 #     part SET N           the lines from N on were added by SET
@@ -65,7 +65,7 @@ trap 'exit 3' HUP INT TERM
 if [ -n "$list" ]; then
     # All decks as of one moment.
     "$upd" backup -- "$library" "$work/copy" && "$upd" idents -- "$work/copy" >"$work/idents" || exit 3
-    library=$work/copy since=$(grep -v ' purged$' "$work/idents" | tail -n 1 | cut -d ' ' -f 2)
+    library=$work/copy since=$(awk '$NF != "purged" { last = $2 " " $1 } END { print last }' "$work/idents")
     exec <"$list" || exit 3
 fi
 mkdir -- "$folder" || exit 3
