@@ -5,8 +5,10 @@
 #
 # Under each: bring.sh and tree.sh bring in files with hostile names and bytes and write them back, byte for byte. Two sites put their changes into one
 # library by put.sh, on other lines and on the same one; one adds a file, removes one, changes 2,500 lines, and is killed while it sends. edit.sh edits a
-# deck, a line that another site has changed, and files of a tree. site.sh sends a run, and once finds its folder in use. What comes out must be the tree
-# that was put in, and LIST the same under all. Exit status: 0 all is as it should be, 1 something is not, 3 the executable is not there.
+# deck, a line that another site has changed, and files of a tree. An edit of several runs meets what came before its first run, between two of them and
+# after one that got no answer; and idents are purged, or come again, that an edit has seen. site.sh sends a run, and once finds its folder in use. What
+# comes out must be the tree that was put in, and LIST the same under all. Exit status: 0 all is as it should be, 1 something is not, 3 the executable is not
+# there.
 set -u
 export LC_ALL=C
 root=$(cd "$(dirname -- "$0")/.." && pwd)
@@ -141,6 +143,102 @@ try_edits() {
     same_tree LYON lyon
 }
 
+# Sends a run of OSLO, by the set and with the lines that are given.
+oslo() {
+    oslo_number=$((oslo_number + 1))
+    printf "$@" >run && "$upd" run p.db OSLO "$oslo_number" quick <run >reply || wrong=$((wrong + 1))
+}
+
+# A library with a deck of 1,900 and a set of 300 lines, a tree of it, and in that an edit of all but 100 lines, which needs two runs.
+make_parts() {
+    rm -rf p.db p.db-wal parts LIST.P LIST.P.put && oslo_number=0
+    expect 0 "$upd" init p.db
+    awk 'BEGIN { print "*DECK A"; for (i = 1; i <= 1900; i++) print "a" i }' >run
+    expect 0 "$upd" run p.db LYON 1 quick <run
+    awk 'BEGIN { print "*IDENT B"; print "*INSERT A.1901"; for (i = 1; i <= 300; i++) print "b" i }' >run
+    expect 0 "$upd" run p.db LYON 2 quick <run
+    printf 'deck A\npath a.txt\n' >LIST.P
+    expect 0 script tree --list LIST.P p.db parts
+    awk 'NR > 100 { $0 = $0 " by LYON" } { print }' parts/a.txt >new && cat new >parts/a.txt
+}
+
+# An executable that, once it is asked for run-at the second time, does this first.
+second_time() {
+    # shellcheck disable=SC2016 # these words are of the script
+    printf '#!/bin/sh\n[ "$1" != run-at ] || { echo >>asked; [ "$(wc -l <asked)" -ne 2 ] || { %s; } }\nexec "%s" "$@"\n' "$1" "$upd" >meddling
+    chmod +x meddling && rm -f asked
+}
+
+# Each part of an edit meets what others have done since its author has seen the deck, when it begins and later.
+try_parts() {
+    make_parts
+    oslo '*IDENT O\n*DELETE B.299\nb299 by OSLO\n'
+    expect 1 script put --yes p.db LYON LIST.P parts </dev/null
+    must [ "$("$upd" idents p.db | wc -l)" -eq 3 ]
+    must grep -q 'O.1 came after B' err
+    printf '#!/bin/sh\nsed "102,\\$s/\\$/ by LYON/" "$1" >edited && cat edited >"$1"\nprintf "*IDENT O2\\n*DELETE B.298\\nOSLO\\n" | "$UPD" run p.db OSLO 9 quick\n' >editor && chmod +x editor
+    expect 1 env EDITOR=./editor sh -c 'echo yes | sh "$0" p.db LYON A' "$root/examples/edit.sh"
+    must grep -q 'as runs 3 to 4 of LYON' err
+    must grep -q '^I B.298 *O2 ' err
+    must [ "$("$upd" idents p.db | wc -l)" -eq 4 ]
+    expect 0 answering 'yes\n' script put --yes p.db LYON LIST.P parts
+    same_text
+    make_parts
+    second_time "printf '*IDENT O\\\\n*DELETE B.299\\\\nOSLO\\\\n' | $upd run p.db OSLO 1 quick >reply"
+    UPD=$work/$count/meddling expect 1 script put --yes p.db LYON LIST.P parts </dev/null
+    must grep -q '^run 4, line 3: O.1 came after LYON31 and is deleted' err
+    must grep -q 'LYON31' err
+    expect 1 script put --yes p.db LYON LIST.P parts </dev/null
+    expect 0 answering 'yes\nyes\n' script put --yes p.db LYON LIST.P parts
+    same_text
+    make_parts
+    second_time 'exit 3'
+    UPD=$work/$count/meddling expect 3 script put --yes p.db LYON LIST.P parts
+    oslo '*IDENT O\n*DELETE B.299\nOSLO\n'
+    expect 1 script put --yes p.db LYON LIST.P parts </dev/null
+    expect 0 answering 'yes\nyes\n' script put --yes p.db LYON LIST.P parts
+    same_text
+    expect 0 script put --yes p.db LYON LIST.P parts
+    same_text
+}
+
+same_text() {
+    "$upd" text p.db A | tail -n +2 >held_text
+    must cmp held_text parts/a.txt
+    must [ "$(wc -l <parts/a.txt)" -eq 2200 ]
+}
+
+# Idents that are purged after a text was taken, and names that come again.
+try_purges() {
+    rm -rf p.db p.db-wal parts LIST.P && oslo_number=0
+    expect 0 "$upd" init p.db
+    oslo '*DECK A\nONE\nTWO\n'
+    oslo '*DECK C\nONE\nTWO\n'
+    oslo '*IDENT X\n*INSERT A.2\nold\n'
+    oslo '*PURGE X\n'
+    oslo '*IDENT X\n*INSERT A.2\nnew\n'
+    expect 0 env EDITOR="sed -i -e 's/TWO/two/'" sh -c 'echo yes | sh "$0" p.db PARIS A' "$root/examples/edit.sh"
+    oslo '*PURGE PARIS1,*\n'
+    printf 'deck A\npath a.txt\ndeck C\npath c.txt\n' >LIST.P
+    expect 0 script tree --list LIST.P p.db parts
+    sed s/TWO/two/ parts/a.txt >new && cat new >parts/a.txt
+    expect 0 answering 'yes\n' script put p.db PARIS LIST.P parts
+    must [ "$("$upd" text p.db A | tail -n 1)" = two ]
+    oslo '*IDENT Y\n*INSERT A.2\nold\n'
+    expect 0 script put p.db PARIS LIST.P parts
+    oslo '*PURGE Y\n'
+    sed s/TWO/two/ parts/c.txt >new && cat new >parts/c.txt
+    expect 1 answering 'yes\n' script put p.db PARIS LIST.P parts
+    must [ "$(grep -c 'Y was purged' err)" -eq 2 ]
+    oslo '*IDENT Y\n*INSERT A.2\nnew\n'
+    expect 1 answering 'yes\n' script put p.db PARIS LIST.P parts
+    sed 's/^\(since [^ ]*\) .*/\1/' LIST.P >new && cat new >LIST.P
+    expect 0 answering 'yes\nyes\n' script put p.db PARIS LIST.P parts
+    printf '#!/bin/sh\necho x >>"$1"\necho "*PURGE PARIS3" | "$UPD" run p.db OSLO 99 quick\n' >editor && chmod +x editor
+    expect 1 env EDITOR=./editor sh -c 'echo yes | sh "$0" p.db PARIS A' "$root/examples/edit.sh"
+    must grep -q 'PARIS3.* was purged' err
+}
+
 try_site() {
     mkdir -p site/outbox && cp run site/outbox/a.quick
     sed -i.old 's/DECK A/DECK S/' site/outbox/a.quick && rm site/outbox/a.quick.old
@@ -163,6 +261,8 @@ try_tools() {
     try_trees
     try_puts
     try_edits
+    try_parts
+    try_purges
     try_site
     PATH=$old_path
     [ -e "$work/LIST" ] || cp LIST.LYON "$work/LIST"
