@@ -184,7 +184,7 @@ try_parts() {
     expect 0 answering 'yes\n' script put --yes p.db LYON LIST.P parts
     same_text
     make_parts
-    second_time "printf '*IDENT O\\\\n*DELETE B.299\\\\nOSLO\\\\n' | $upd run p.db OSLO 1 quick >reply"
+    second_time "printf '*IDENT O\\n*DELETE B.299\\nOSLO\\n' | $upd run p.db OSLO 1 quick >reply"
     UPD=$work/$count/meddling expect 1 script put --yes p.db LYON LIST.P parts </dev/null
     must grep -q '^run 4, line 3: O.1 came after LYON31 and is deleted' err
     must grep -q 'LYON31' err

@@ -34,9 +34,8 @@
 set -u
 export LC_ALL=C
 
-say() {
-    printf '%s: %s\n' "${0##*/}" "$*" >&2
-}
+for common in "$(dirname -- "$0")/common.sh" "$(dirname -- "$0")/upd-common"; do [ ! -r "$common" ] || break; done
+. "$common" || exit 3
 
 usage() {
     say "usage: ${0##*/} [--c] [--skip] [--list LIST] FILE SITE NUMBER < names-of-source-files; --c asks for --list"
@@ -73,17 +72,6 @@ esac
 library=$1 site=$2 number=$3
 upd=${UPD:-upd} files=0 unfit=0
 
-# A script of this folder, as it is there or as it is installed.
-script() {
-    for found in "$(dirname -- "$0")/$1.sh" "$(dirname -- "$0")/upd-$1"; do
-        if [ -r "$found" ]; then
-            printf '%s\n' "$found"
-            return
-        fi
-    done
-    say "$found is not there"
-    exit 3
-}
 tree=$(script tree) && cards=$(script cards) || exit 3
 
 work=$(mktemp -d) || exit 3
