@@ -24,7 +24,7 @@
 #                   cards.sh say what is changed.
 #
 # Before the spool is written, it is tried on a copy of FILE, which has to accept each run, and on an empty library: tree.sh
-# writes each file back, and each is compared with its source. tree.sh and cards.sh are in this script's folder.
+# writes each file back, and each is compared with its source. tree.sh, cards.sh and common.sh are in this script's folder.
 #
 # Exit status:
 #   0  the spool is written, with --skip perhaps without some files
