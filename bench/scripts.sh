@@ -176,7 +176,11 @@ try_parts() {
     expect 1 script put --yes p.db LYON LIST.P parts </dev/null
     must [ "$("$upd" idents p.db | wc -l)" -eq 3 ]
     must grep -q 'O.1 came after B' err
-    printf '#!/bin/sh\nsed "102,\\$s/\\$/ by LYON/" "$1" >edited && cat edited >"$1"\nprintf "*IDENT O2\\n*DELETE B.298\\nOSLO\\n" | "$UPD" run p.db OSLO 9 quick\n' >editor && chmod +x editor
+    cat >editor <<'EOF' && chmod +x editor
+#!/bin/sh
+sed "102,\$s/\$/ by LYON/" "$1" >edited && cat edited >"$1"
+printf "*IDENT O2\n*DELETE B.298\nOSLO\n" | "$UPD" run p.db OSLO 9 quick
+EOF
     expect 1 env EDITOR=./editor sh -c 'echo yes | sh "$0" p.db LYON A' "$root/examples/edit.sh"
     must grep -q 'as runs 3 to 4 of LYON' err
     must grep -q '^I B.298 *O2 ' err
