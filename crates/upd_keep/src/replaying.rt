@@ -28,7 +28,7 @@ pub enum Replayed {
 }
 
 /// Hands in the stored runs of the library in a connection at an empty library in memory, in the order in which they
-/// were stored, and compares replies and tables. Nothing changes. Each run copies the tables made so far.
+/// were stored, and compares replies and tables. Nothing changes.
 ///
 /// The fault is NoMemory or Store, at 0; it is Store inside a transaction, and where the connection has no tables of a
 /// library.

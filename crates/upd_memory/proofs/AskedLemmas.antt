@@ -1,15 +1,11 @@
 -- The statuses found for cards that are sorted, each once, are those of the table.
 use Rattle.upd_memory.proofs.Common.{◌≡◌, Bool, true, false, cond, List, [], ◌∷◌, ◌++◌, map, Option, None, Some, refl, ap, sym, ◌∙◌, subst, ◌||◌, is_some}
-use Rattle.upd_memory.proofs.Common.{BTreeMap, get, is_at, filter, flat_map, list_any, IsPermutation, IsStrictlySortedBy, keys_of, lookup, option_map_or}
-use Rattle.upd_memory.proofs.Common.{is_eq, is_same-is_eq, by_name, CardRef, IsSame, StateRow, same_ref, state_rows, is_asked, state_pair, AreInOrder}
+use Rattle.upd_memory.proofs.Common.{BTreeMap, get, is_at, filter, flat_map, IsStrictlySortedBy, keys_of, lookup, option_map_or}
+use Rattle.upd_memory.proofs.Common.{is_eq, by_name, CardRef, IsSame, StateRow, same_ref, state_rows, is_asked, state_pair, AreInOrder}
 use Rattle.upd_memory.proofs.Common.{AreStatuses, pairs_at}
-use Rattle.std.specs.List.{dedup, dedup_from}
-use Rattle.std.specs.List.Sorted.{IsSorted}
 use Rattle.std.specs.Option.{option_or}
-use Rattle.std.proofs.lemmas.List.Kept.{IsStrictlySortedBy-dedup, IsStrictlySortedBy-filter}
-use Rattle.std.proofs.lemmas.List.Sorted.{list_any-IsPermutation}
-use Rattle.upd_text.specs.Order.{is_same_reference}
-use Rattle.upd_memory.proofs.NameOrderLemmas.{one_by_order, refs_total, turned}
+use Rattle.std.proofs.lemmas.List.Kept.{IsStrictlySortedBy-filter}
+use Rattle.upd_memory.proofs.NameOrderLemmas.{one_by_order, turned}
 use Rattle.upd_memory.proofs.StatusRowLemmas.{asked_at, list_same}
 
 -- ---- the pairs of cards

@@ -28,11 +28,11 @@ pub use Rattle.upd_core.specs.declared.target.Target.{Target}
 pub use Rattle.upd_memory.specs.ActiveRows.{AreInOrder, rise_from, shown_decks, with_rows}
 pub use Rattle.upd_memory.specs.Mirrored.{Agrees, state_row}
 pub use Rattle.upd_memory.specs.MovedIdents.{adds_from, is_from, is_reached}
-pub use Rattle.upd_memory.specs.RowsByKey.{AreCards, AreEntries, AreHomes, AreStatuses, cards_at, entries_at, is_home, pairs_at, placed_row}
+pub use Rattle.upd_memory.specs.RowsByKey.{AreCards, AreEntries, AreHomes, AreStatuses, cards_at, entries_at, is_home, pairs_at}
 pub use Rattle.upd_memory.specs.Walk.{AreFound}
 pub use Rattle.upd_records.proofs.ByKeyLemmas.{filter_twice, same_by_key}
 pub use Rattle.upd_records.proofs.CountLemmas.{same_append, same_map}
-pub use Rattle.upd_records.specs.Changes.{change_view, done_all, moved_row, restated}
+pub use Rattle.upd_records.specs.Changes.{change_view, done_all, moved_row}
 pub use Rattle.upd_records.specs.Fits.{AllFit, CanMove, Fits}
 pub use Rattle.upd_records.specs.Rows.{CountRow, StateRow, state_rows}
 pub use Rattle.upd_row_store.proofs.Common.{◌==◌, CardNew, CardRow, ChangeView, EntryRow, Err, IsPermutation, IsSame, IsTotalOrder, Ok, Result, Rows}

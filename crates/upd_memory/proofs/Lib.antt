@@ -10,3 +10,4 @@ mod ActiveRowsLemmas
 pub mod Common
 mod MovedIdentLemmas
 mod WalkLemmas
+mod CardSetLemmas

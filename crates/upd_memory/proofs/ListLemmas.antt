@@ -1,40 +1,66 @@
--- Row changes that fit are carried out on lists as they are defined.
-use Rattle.upd_memory.proofs.Common.{◌≡◌, ℕ, ◌+◌, ◌<◌, ◌==◌, nat_le, IsTrue, List, [], ◌∷◌, length, get_or, drop, map, refl, ap, sym, ◌∙◌, ℤ, AllByRecursion}
-use Rattle.upd_memory.proofs.Common.{drop_more, Change, CardRow, Rows, ChangeView, CardNew, change_view, done, done_all, moved_row, AllFit, CanMove, Fits}
-use Rattle.upd_memory.proofs.Common.{placed_row}
-use Rattle.std.proofs.Common.{◌&&◌}
+-- The tables that row changes make, beside the runs and the marks that are kept.
+use Rattle.upd_memory.proofs.Common.{◌≡◌, List, [], ◌∷◌, ◌++◌, map, None, Some, Option, refl, ap, sym, ◌∙◌, subst, map-append}
+use Rattle.upd_memory.proofs.Common.{Change, ChangeView, CardNew, Rows, change_view, done, done_all, Agrees, Result, Ok, Err, result_ok}
+use Rattle.std.proofs.Common.{IfOk}
 use Rattle.upd_records.specs.Changes.{IdentNew, IdentPurged, CardGone, CardsMoved, EntryNew, EntriesGone, TargetNew, TargetsGone, StatusNow, CountNow}
-use Rattle.upd_memory.specs.Lists.{carried}
-use Rattle.upd_memory.proofs.MirrorLemmas.{row_fits}
+use Rattle.upd_records.specs.Rows.{MarkRow, RunView}
+use Rattle.upd_row_store.specs.Tables.{committed, with_run}
+use Rattle.upd_shifts.proofs.MoveLemmas.{done_parts}
+use Rattle.upd_memory.specs.declared.mirror.Mirror.{Mirror}
+use Rattle.upd_memory.specs.Lists.{made_tables, no_rows}
+use Rattle.upd_memory.specs.Mirrored.{AgreesIfAny}
 
-rows_fit : (deck from : ℕ) (by : ℤ) (rows : List CardRow)
-    → AllByRecursion (λ r. IsTrue ((r.deck == deck) && nat_le from r.pos) → CanMove by r.pos) rows
-    → map (placed_row deck from by) rows ≡ map (moved_row deck from by) rows
-rows_fit deck from by [] all = refl
-rows_fit deck from by (r ∷ rows) all = rw (row_fits deck from by r all.0, rows_fit deck from by rows all.1) refl
+-- a mirror has nothing of runs and marks
+pub agrees_beside : (m : Option Mirror) (rows : Rows) (runs : List RunView) (marks : List MarkRow) → AgreesIfAny m rows
+    → AgreesIfAny m (record rows { runs = runs; settled = marks })
+agrees_beside None rows runs marks are = tt
+agrees_beside (Some m) rows runs marks are = record {
+  idents = are.idents;
+  cards = are.cards;
+  homes = are.homes;
+  entries = are.entries;
+  entry_count = are.entry_count;
+  targets = are.targets;
+  states = are.states;
+  counts = are.counts;
+}
 
--- ---- one change after the other
+-- what agrees where there is a mirror, of one that a call answers
+pub agrees_ok : {E : Type 0} (r : Result Mirror E) (rows : Rows) → AgreesIfAny (result_ok r) rows → IfOk r (λ m. Agrees m rows)
+agrees_ok (Ok m) rows are = are
+agrees_ok (Err e) rows are = tt
 
-carried_fits : (c : ChangeView) (rows : Rows) → Fits c rows → carried c rows ≡ done c rows
-carried_fits (IdentNew i) rows fit = refl
-carried_fits (IdentPurged age) rows fit = refl
-carried_fits (CardNew card deck place body) rows fit = refl
-carried_fits (CardGone card) rows fit = refl
-carried_fits (CardsMoved deck from by) rows fit = ap (λ cards. record rows { cards = cards }) (rows_fit deck from by rows.cards fit)
-carried_fits (EntryNew card ord entry) rows fit = refl
-carried_fits (EntriesGone card) rows fit = refl
-carried_fits (TargetNew card ord target) rows fit = refl
-carried_fits (TargetsGone card targets) rows fit = refl
-carried_fits (StatusNow card active) rows fit = refl
-carried_fits (CountNow target n) rows fit = refl
+-- row changes leave runs and marks
+one_beside : (c : ChangeView) (rows : Rows) (runs : List RunView) (marks : List MarkRow)
+    → done c (record rows { runs = runs; settled = marks }) ≡ record (done c rows) { runs = runs; settled = marks }
+one_beside (IdentNew i) rows runs marks = refl
+one_beside (IdentPurged age) rows runs marks = refl
+one_beside (CardNew card deck place body) rows runs marks = refl
+one_beside (CardGone card) rows runs marks = refl
+one_beside (CardsMoved deck from by) rows runs marks = refl
+one_beside (EntryNew card ord entry) rows runs marks = refl
+one_beside (EntriesGone card) rows runs marks = refl
+one_beside (TargetNew card ord target) rows runs marks = refl
+one_beside (TargetsGone card targets) rows runs marks = refl
+one_beside (StatusNow card active) rows runs marks = refl
+one_beside (CountNow target n) rows runs marks = refl
 
--- the changes from the next one on, where the tables are fit for all of them
-pub next_change : (cs : List Change) (i : ℕ) (d x : Change) (rows next : Rows) → i < length cs → x ≡ get_or cs i d
-    → next ≡ carried (change_view x) rows → AllFit (map change_view (drop i cs)) rows
-    → AllFit (map change_view (drop (i + 1) cs)) next
-    × (done_all (map change_view (drop (i + 1) cs)) next ≡ done_all (map change_view (drop i cs)) rows)
-next_change cs i d x rows next within read is_carried fit =
-    let split : drop i cs ≡ x ∷ drop (i + 1) cs = drop_more cs i d within ∙ ap (λ y. y ∷ drop (i + 1) cs) (sym read) in
-    let fits : AllFit (map change_view (x ∷ drop (i + 1) cs)) rows = rw split at fit in
-    let is : next ≡ done (change_view x) rows = is_carried ∙ carried_fits (change_view x) rows fits.0 in
-    (rw is fits.1, rw (is, split) refl)
+all_beside : (cs : List ChangeView) (rows : Rows) (runs : List RunView) (marks : List MarkRow)
+    → done_all cs (record rows { runs = runs; settled = marks }) ≡ record (done_all cs rows) { runs = runs; settled = marks }
+all_beside [] rows runs marks = refl
+all_beside (c ∷ cs) rows runs marks = ap (done_all cs) (one_beside c rows runs marks) ∙ all_beside cs (done c rows) runs marks
+
+-- a commit adds its row changes and its run
+pub committed_tables : (log added : List Change) (cs : List ChangeView) (runs : List RunView) (marks : List MarkRow) (run : RunView)
+    → map change_view added ≡ cs → committed cs run (made_tables log runs marks) ≡ made_tables (log ++ added) (runs ++ run ∷ []) marks
+committed_tables log added cs runs marks run is =
+    ap (with_run run) (all_beside cs (done_all (map change_view log) no_rows) runs marks)
+    ∙ ap (λ (rows : Rows). record rows { runs = runs ++ run ∷ []; settled = marks }) (done_parts (map change_view log) cs no_rows
+    ∙ ap (λ ds. done_all ds no_rows) (sym (map-append change_view log added ∙ ap (λ ds. map change_view log ++ ds) is)))
+
+pub agrees_committed : (m : Option Mirror) (log added : List Change) (cs : List ChangeView) (runs : List RunView) (marks : List MarkRow) (run : RunView)
+    → map change_view added ≡ cs → AgreesIfAny m (done_all cs (made_tables log runs marks))
+    → AgreesIfAny m (made_tables (log ++ added) (runs ++ run ∷ []) marks)
+agrees_committed m log added cs runs marks run is are =
+    let after = done_all cs (made_tables log runs marks) in
+    subst (AgreesIfAny m) (committed_tables log added cs runs marks run is) (agrees_beside m after (after.runs ++ run ∷ []) after.settled are)

@@ -1,5 +1,5 @@
 -- The rows of a map, one key after the other, are those of the table.
-use Rattle.upd_memory.proofs.Common.{◌≡◌, ℕ, zero, suc, ◌+◌, ◌≤◌, Bool, true, false, not, cond, List, [], ◌∷◌, ◌++◌, length, Option, None, Some, refl, ap}
+use Rattle.upd_memory.proofs.Common.{◌≡◌, ◌+◌, Bool, true, false, not, cond, List, [], ◌∷◌, ◌++◌, Option, None, Some, refl, ap}
 use Rattle.upd_memory.proofs.Common.{sym, ◌∙◌, subst, arith, append-nil, ◌&&◌, BTreeMap, IsOrdered, get, is_at, IsTotalOrder, tied_itself, AllByRecursion}
 use Rattle.upd_memory.proofs.Common.{count_by, filter, flat_map, IsStrictlySortedBy, keys_of, lookup, option_map_or, is_eq, Ordering, Less, Equal, Greater}
 use Rattle.upd_memory.proofs.Common.{filter-append, recursion_from_All, sorted_head, sorted_tail, CmpEqualImpliesEq, All-found, filter_twice, same_by_key}

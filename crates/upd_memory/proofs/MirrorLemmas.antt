@@ -1,27 +1,24 @@
 -- The tables of a mirror after one change.
-use Rattle.upd_memory.proofs.Common.{◌≡◌, ℕ, ◌+◌, ◌==◌, nat_le, Bool, true, false, not, cond, if◌then◌else◌, IsTrue, List, [], ◌∷◌, ◌++◌, length, map, get_or}
-use Rattle.upd_memory.proofs.Common.{drop, ◌<◌, None, Some, Option, Result, Ok, Err, refl, ap, sym, ◌∙◌, subst, arith, append-nil, ◌&&◌, ◌||◌, ℤ, BTreeMap}
-use Rattle.upd_memory.proofs.Common.{get, is_at, filter, list_any, AllByRecursion, option_map_or, lookup, is_eq, nat_cmp, result_ok, Vec, and_parts}
+use Rattle.upd_memory.proofs.Common.{◌≡◌, ℕ, ◌+◌, ◌==◌, Bool, true, false, not, cond, List, [], ◌∷◌, ◌++◌, length, map, get_or}
+use Rattle.upd_memory.proofs.Common.{drop, ◌<◌, None, Some, Option, Result, Ok, Err, refl, ap, sym, ◌∙◌, subst, arith, append-nil, ◌&&◌, ◌||◌, BTreeMap}
+use Rattle.upd_memory.proofs.Common.{get, is_at, filter, list_any, option_map_or, lookup, is_eq, nat_cmp, result_ok, Vec, and_parts}
 use Rattle.upd_memory.proofs.Common.{Decides-eqb, drop_more, map-append, by_name, CardRef, is_same, Target, same_append, same_filter, same_map, same_of}
-use Rattle.upd_memory.proofs.Common.{same_trans, Change, change_view, done, done_all, moved_row, AllFit, CanMove, Fits, CardRow, CountRow, EntryRow, IsSame}
+use Rattle.upd_memory.proofs.Common.{same_trans, Change, change_view, done, done_all, CardRow, CountRow, EntryRow, IsSame}
 use Rattle.upd_memory.proofs.Common.{Rows, same_ref, state_rows, same_length, any_same, count_pair, Agrees, AreCards, AreEntries, AreHomes, AreStatuses}
-use Rattle.upd_memory.proofs.Common.{cards_at, entries_at, is_home, placed_row, filter_twice}
+use Rattle.upd_memory.proofs.Common.{cards_at, entries_at, is_home, filter_twice}
 use Rattle.std.proofs.Common.{◌-◌, zero, suc, OnOk, IfOk}
-use Rattle.std.specs.Prelude.{pos, negsuc, ◌^◌, ◌≤◌, OnSome}
-use Rattle.std.proofs.Math.Nat.{min-eq_left}
+use Rattle.std.specs.Prelude.{◌≤◌, OnSome}
 use Rattle.std.proofs.lemmas.Option.{same_Some}
 use Rattle.upd_records.proofs.EffectLemmas.{any_append}
-use Rattle.upd_records.specs.Changes.{shifted}
 use Rattle.upd_records.specs.Rows.{count_rows}
 use Rattle.upd_row_store.proofs.AskedLemmas.{filter_made}
 use Rattle.std.proofs.Common.{take}
 use Rattle.std.proofs.lemmas.List.{take-append-drop}
-use Rattle.upd_shifts.proofs.MoveLemmas.{card_stays, deck_stays, done_parts, fits_parts, other_stays}
+use Rattle.upd_shifts.proofs.MoveLemmas.{card_stays, deck_stays, done_parts, other_stays}
 use Rattle.upd_shifts.proofs.ShiftLemmas.{all_placed}
 use Rattle.upd_shifts.specs.declared.moves.Move.{Move}
 use Rattle.upd_shifts.specs.Shifts.{moved_all, moved_pos}
 use Rattle.upd_memory.specs.declared.mirror.Mirror.{Mirror}
-use Rattle.upd_memory.specs.RowsByKey.{moved_place}
 use Rattle.upd_memory.proofs.KeyedLemmas.{any_gone, any_mapped, any_stays, apart_stay, filter_mapped, one_more, some_gone}
 use Rattle.upd_memory.proofs.NameOrderLemmas.{alike, one_by_order, turned}
 
@@ -39,6 +36,10 @@ ok_value P (Err e) o x is some holds = absurd (let clash : None ≡ Some x = sym
 pub on_success : {X P Q : Type 0} (o : Option X) → OnSome o P → (P → Q) → OnSome o Q
 on_success None holds f = tt
 on_success (Some x) holds f = f holds
+
+pub on_fine : {X E P Q : Type 0} (r : Result X E) → OnOk r P → (P → Q) → OnOk r Q
+on_fine (Ok x) holds f = f holds
+on_fine (Err e) holds f = tt
 
 -- a list that was changed in place up to its end
 pub all_over : {A : Type 0} (f : A → A) (k : ℕ) (xs : List A) → length xs ≤ k → map f (take k xs) ++ drop k xs ≡ map f xs
@@ -96,37 +97,6 @@ homes_left old new rows card left are c d = left c d ∙ go (is_eq (by_name card
         ≡ list_any (λ x. (x.deck == d) && same_ref c x.card) (filter (λ r. not (same_ref card r.card)) rows)
     go true e = sym (any_gone (λ x. (x.deck == d) && same_ref c x.card) (λ r. same_ref card r.card) rows (goes true e))
     go false e = are c d ∙ sym (any_stays (λ x. (x.deck == d) && same_ref c x.card) (λ r. same_ref card r.card) rows (goes false e))
-
--- ---- cards
-
-pub cards_left : {Z : Type 0} (old new : BTreeMap ℕ (Vec CardRow Z)) (homes : BTreeMap CardRef ℕ) (rows : List CardRow) (card : CardRef)
-    → ((d : ℕ) → cards_at new d ≡ cond (is_home homes card d) (filter (λ r. not (same_ref card r.card)) (cards_at old d)) (cards_at old d))
-    → AreHomes homes rows → AreCards old rows → AreCards new (filter (λ r. not (same_ref card r.card)) rows)
-cards_left old new homes rows card left known are d =
-    subst (λ xs. IsSame xs (filter (λ r. r.deck == d) (filter (λ r. not (same_ref card r.card)) rows))) (sym (left d)) (go
-    (is_home homes card d) refl)
-  where
-    go : (b : Bool) → is_home homes card d ≡ b → IsSame (cond b (filter (λ r. not (same_ref card r.card)) (cards_at old d)) (cards_at old d))
-        (filter (λ r. r.deck == d) (filter (λ r. not (same_ref card r.card)) rows))
-    go true e = subst (IsSame _) (sym (filter_twice (λ r. r.deck == d) (λ r. not (same_ref card r.card)) rows))
-        (same_filter (λ r. not (same_ref card r.card)) (are d))
-    go false e = subst (IsSame (cards_at old d)) (sym (apart_stay (λ r. r.deck == d) (λ r. same_ref card r.card) rows (sym (known card d)
-        ∙ e))) (are d)
-
--- ---- moves
-
-place_fits : (by : ℤ) (p : ℕ) → CanMove by p → moved_place by p ≡ shifted by p
-place_fits (pos n) p can = let le : p + n ≤ 2 ^ 32 - 1 = omega arith in min-eq_left le
-place_fits (negsuc n) p can = let below = can.1 in let le : p - (n + 1) ≤ 2 ^ 32 - 1 = omega arith in min-eq_left le
-
-pub row_fits : (deck from : ℕ) (by : ℤ) (r : CardRow) → (IsTrue ((r.deck == deck) && nat_le from r.pos) → CanMove by r.pos)
-    → placed_row deck from by r ≡ moved_row deck from by r
-row_fits deck from by r can = go ((r.deck == deck) && nat_le from r.pos) can
-  where
-    go : (b : Bool) → (IsTrue b → CanMove by r.pos)
-        → (if b then record r { pos = moved_place by r.pos } else r) ≡ (if b then record r { pos = shifted by r.pos } else r)
-    go true can = ap (λ p. record r { pos = p }) (place_fits by r.pos (can refl))
-    go false can = refl
 
 -- ---- moves of a deck at once
 
@@ -249,22 +219,17 @@ count_some target n old mid new rows some is more are =
 -- ---- one change after the other
 
 pub next_change : (cs : List Change) (i : ℕ) (d x : Change) (rows : Rows) → i < length cs → x ≡ get_or cs i d
-    → AllFit (map change_view (drop i cs)) rows
-    → Fits (change_view x) rows × AllFit (map change_view (drop (i + 1) cs)) (done (change_view x) rows)
-    × (done_all (map change_view (drop (i + 1) cs)) (done (change_view x) rows) ≡ done_all (map change_view (drop i cs)) rows)
-next_change cs i d x rows within read fit =
+    → done_all (map change_view (drop (i + 1) cs)) (done (change_view x) rows) ≡ done_all (map change_view (drop i cs)) rows
+next_change cs i d x rows within read =
     let split : drop i cs ≡ x ∷ drop (i + 1) cs = drop_more cs i d within ∙ ap (λ y. y ∷ drop (i + 1) cs) (sym read) in
-    let fits : AllFit (map change_view (x ∷ drop (i + 1) cs)) rows = rw split at fit in
-    (fits.0, fits.1, ap (λ ds. done_all (map change_view ds) rows) (sym split))
+    ap (λ ds. done_all (map change_view ds) rows) (sym split)
 
-pub next_part : (cs : List Change) (n : ℕ) (rows : Rows) → AllFit (map change_view cs) rows
-    → AllFit (map change_view (take n cs)) rows × AllFit (map change_view (drop n cs)) (done_all (map change_view (take n cs)) rows)
-    × (done_all (map change_view (drop n cs)) (done_all (map change_view (take n cs)) rows) ≡ done_all (map change_view cs) rows)
-next_part cs n rows fit =
+pub next_part : (cs : List Change) (n : ℕ) (rows : Rows)
+    → done_all (map change_view (drop n cs)) (done_all (map change_view (take n cs)) rows) ≡ done_all (map change_view cs) rows
+next_part cs n rows =
     let split : map change_view cs ≡ map change_view (take n cs) ++ map change_view (drop n cs) =
     ap (map change_view) (sym (take-append-drop n cs)) ∙ map-append change_view (take n cs) (drop n cs) in
-    let fits = fits_parts (map change_view (take n cs)) (map change_view (drop n cs)) rows (subst (λ ds. AllFit ds rows) split fit) in
-    (fits.0, fits.1, done_parts (map change_view (take n cs)) (map change_view (drop n cs)) rows ∙ ap (λ ds. done_all ds rows) (sym split))
+    done_parts (map change_view (take n cs)) (map change_view (drop n cs)) rows ∙ ap (λ ds. done_all ds rows) (sym split)
 
 -- ---- a mirror of rows that were read
 

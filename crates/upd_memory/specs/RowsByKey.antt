@@ -1,5 +1,5 @@
 -- Rows in memory under their keys, and when they are the rows of a table.
-use Rattle.std.specs.Prelude.{◌≡◌, ℕ, ◌-◌, ◌^◌, ◌==◌, nat_le, min, ℤ, Bool, false, ◌&&◌, if◌then◌else◌, List, [], ◌∷◌}
+use Rattle.std.specs.Prelude.{◌≡◌, ℕ, ◌==◌, Bool, false, ◌&&◌, is_some, List, [], ◌∷◌}
 use Rattle.std.specs.BTreeMap.{BTreeMap, get}
 use Rattle.std.specs.List.{filter, list_any}
 use Rattle.std.specs.Option.{option_map_or}
@@ -7,7 +7,6 @@ use Rattle.std.specs.Ordering.{nat_cmp}
 use Rattle.std.specs.declared.vec.Vec.{Vec}
 use Rattle.upd_text.specs.Order.{by_name}
 use Rattle.upd_text.specs.declared.card_ref.CardRef.{CardRef}
-use Rattle.upd_records.specs.Changes.{shifted}
 use Rattle.upd_records.specs.Rows.{CardRow, EntryRow, IsSame, StateRow, same_ref, state_rows}
 
 -- the rows of a deck's cards
@@ -17,6 +16,10 @@ cards_at decks d = option_map_or (λ v. v.items) (get nat_cmp decks d) []
 -- the rows of a card's entries
 abbrev pub entries_at : {Z : Type 0} → BTreeMap CardRef (Vec EntryRow Z) → CardRef → List EntryRow
 entries_at entries card = option_map_or (λ v. v.items) (get by_name entries card) []
+
+-- whether a card is in a set
+abbrev pub is_in : {A : Type 0} → BTreeMap CardRef A → CardRef → Bool
+is_in set card = is_some (get by_name set card)
 
 -- whether a card is known to be in a deck
 abbrev pub is_home : BTreeMap CardRef ℕ → CardRef → ℕ → Bool
@@ -41,11 +44,3 @@ AreStatuses statuses rows = (card : CardRef) → IsSame (state_rows card (get by
 -- a card with its status, if it has one
 abbrev pub pairs_at : BTreeMap CardRef Bool → CardRef → List (CardRef × Bool)
 pairs_at statuses card = option_map_or (λ active. (card, active) ∷ []) (get by_name statuses card) []
-
--- a place moved by a signed distance, or the last place of all where it would be after that
-abbrev pub moved_place : ℤ → ℕ → ℕ
-moved_place by p = min (shifted by p) (2 ^ 32 - 1)
-
--- the row of a card, moved so where the card is in the deck at position `from` or later
-abbrev pub placed_row : ℕ → ℕ → ℤ → CardRow → CardRow
-placed_row deck from by r = if (r.deck == deck) && nat_le from r.pos then record r { pos = moved_place by r.pos } else r

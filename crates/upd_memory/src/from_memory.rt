@@ -72,7 +72,7 @@ impl Mirror {
     }
 
     /// The rows that make the library; memory alone can fail.
-    fn library_rows(&self, alloc: Global) -> Result<LibraryRows, AllocError>
+    pub(crate) fn library_rows(&self, alloc: Global) -> Result<LibraryRows, AllocError>
         ensures { IfOk result (λ found. (rows : Rows) → Agrees self.now rows → AreRowsOf rows found) }
     {
         let idents = Vec::from_slice(alloc, &self.idents)?;

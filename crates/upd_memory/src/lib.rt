@@ -1,11 +1,12 @@
 //! Stores with rows in memory: `MirrorStore`, which keeps the rows of another store beside it, and `ListStore`, which has
-//! nothing below it: the plain model that other stores are compared with in tests.
+//! nothing below it: a library is replayed in it, and other stores are compared with it in tests.
 #![tactic(auto)]
 
 mod active_rows;
+mod card_sets;
 mod card_walk;
+mod change_log;
 mod from_memory;
-mod list_changes;
 pub mod list_store;
 pub mod list_tables;
 mod made;

@@ -1,4 +1,4 @@
-//! A store over lists.
+//! A store with nothing below it.
 
 ghost use Rattle.std.specs.Prelude.{◌≡◌, refl, []};
 ghost use Rattle.std.proofs.Common.{sym, ◌∙◌};
@@ -8,10 +8,10 @@ use crate::list_tables::ListTables;
 use std::alloc::Global;
 use upd_core::{Actives, CardRef, Change, Library, Serial, States};
 use upd_records::{LibraryRows, RunRow, copy_run};
-use upd_row_store::{Meaning, RowStore, reads_with};
+use upd_row_store::{Homes, Meaning, RowStore, reads_with};
 use upd_text::Fault;
 
-/// Tables that are lists. Only out of memory can occur.
+/// Tables in memory. Only out of memory can occur.
 #[derive(Debug, Drop)]
 pub struct ListStore {
     pub(crate) tables: ListTables,
@@ -88,6 +88,11 @@ impl RowStore for ListStore {
     fn decks_of(&mut self, alloc: Global, cards: &[CardRef]) -> Result<Vec<Serial>, Fault> {
         let decks = self.tables.decks_of(alloc, cards)?;
         Ok(decks)
+    }
+
+    fn homes_of(&mut self, alloc: Global, cards: &[CardRef]) -> Result<Homes, Fault> {
+        let homes = self.tables.homes_of(alloc, cards)?;
+        Ok(homes)
     }
 
     fn library_rows(&mut self, alloc: Global) -> Result<LibraryRows, Fault> {

@@ -1,75 +1,73 @@
-//! Tables that are lists.
+//! Tables in memory, as the row changes that made them.
 
-ghost use Rattle.std.specs.Prelude.{◌≡◌, ◌≤◌, [], ◌∷◌, ◌++◌, not, map, IfOk, OnErr, OnOk};
+ghost use Rattle.std.specs.Prelude.{◌≡◌, ◌≤◌, [], ◌∷◌, ◌++◌, not, map, IfOk, IfSome, OnErr, OnOk};
 ghost use Rattle.std.specs.List.{filter};
 ghost use Rattle.std.specs.Option.{option_copied};
 ghost use Rattle.std.specs.Vec.{vec_capacity, vec_len};
 ghost use Rattle.upd_core.specs.Actives.{actives_of};
 ghost use Rattle.upd_core.specs.Library.{LibraryView};
+ghost use Rattle.upd_core.specs.Parts.{part_of};
 ghost use Rattle.upd_core.specs.Sound.{IsSound, IsWhole};
 ghost use Rattle.upd_records.specs.Changes.{change_view};
 ghost use Rattle.upd_records.specs.Fits.{AllFit};
 ghost use Rattle.upd_records.specs.Rows.{Rows, Shows, ShowsStates};
-ghost use Rattle.upd_row_store.specs.Asked.{decks_with};
+ghost use Rattle.upd_row_store.specs.Asked.{AreHomes, decks_with};
 ghost use Rattle.upd_row_store.specs.Assembling.{AreRowsOf};
-ghost use Rattle.upd_core.specs.Parts.{part_of};
-ghost use Rattle.upd_row_store.specs.Tables.{AreByKey, AreRead, AreReadOf, committed, count_pair, is_mark_of, is_settled, mark_at};
-ghost use Rattle.upd_row_store.specs.Tables.{run_at, settled_to, state_pair};
+ghost use Rattle.upd_row_store.specs.Tables.{AreByKey, AreRead, AreReadOf, committed, is_mark_of, is_settled, mark_at};
+ghost use Rattle.upd_row_store.specs.Tables.{run_at, settled_to};
+ghost use Rattle.upd_memory.specs.Mirrored.{Agrees};
 
+use crate::change_log::copy_changes;
+use crate::mirror::{Mirror, changed, made_of};
 use std::alloc::{AllocError, Global};
+use std::fmt;
 use std::marker::Model;
-use upd_core::{Actives, CardRef, Change, Ident, Library, Serial, States, Target};
-use upd_records::{
-    CardRow, CountRow, EntryRow, LibraryRows, MarkRow, RunRow, StateRow, TargetRow, copy_cards,
-    copy_run,
-};
-use upd_row_store::{
-    ages_of_decks, assembled, assembled_active, assembled_part, decks_by_age, states_among,
-    states_by_key,
-};
+use upd_core::{Actives, CardRef, Change, Library, Serial, States};
+use upd_records::{LibraryRows, MarkRow, RunRow};
+use upd_row_store::Homes;
 
-/// The tables as lists.
-#[derive(Debug)]
+/// Tables, as the row changes of all commits, and the rows in memory that the changes make. A commit adds to both. The
+/// changes alone know in which order the rows of a table are.
 pub struct ListTables {
-    pub(crate) idents: Vec<Ident>,
-    pub(crate) cards: Vec<CardRow>,
-    pub(crate) entries: Vec<EntryRow>,
-    pub(crate) targets: Vec<TargetRow>,
-    pub(crate) runs: Vec<RunRow>,
-    pub(crate) states: Vec<StateRow>,
-    pub(crate) counts: Vec<CountRow>,
-    pub(crate) settled: Vec<MarkRow>,
+    changes: Vec<Change>,
+    runs: Vec<RunRow>,
+    settled: Vec<MarkRow>,
+    /// The rows that the changes make. Where memory ran out there are none, and they are made again.
+    mirror: Option<Mirror>,
 }
 
 // Written by hand, so that a caller does not prove again how each table is dropped.
 impl Drop for ListTables {
     fn drop(self) {
         let ListTables {
-            idents: _,
-            cards: _,
-            entries: _,
-            targets: _,
+            changes: _,
             runs: _,
-            states: _,
-            counts: _,
             settled: _,
+            mirror: _,
         } = self;
     }
 }
 
 impl Model for ListTables {
+    ghost use Rattle.upd_records.specs.Rows.{Rows};
+    ghost use Rattle.upd_memory.specs.Lists.{made_tables};
+    ghost use Rattle.upd_memory.specs.Mirrored.{AgreesIfAny};
+
     ghost Value = { Rows };
 
-    ghost view = { λ s. record {
-      idents = s.idents.items;
-      cards = s.cards.items;
-      entries = s.entries.items;
-      targets = s.targets.items;
-      runs = s.runs.items;
-      states = s.states.items;
-      counts = s.counts.items;
-      settled = s.settled.items;
-    } };
+    ghost view = { λ s. made_tables s.changes.items s.runs.items s.settled.items };
+
+    ghost invariant = { λ s. AgreesIfAny s.mirror (made_tables s.changes.items s.runs.items s.settled.items) };
+}
+
+impl fmt::Debug for ListTables {
+    fn fmt<W: fmt::Write>(&self, f: &mut fmt::Formatter<W>) -> fmt::Result {
+        f.debug_struct("ListTables")
+            .field("changes", &self.changes)
+            .field("runs", &self.runs)
+            .field("settled", &self.settled)
+            .finish()
+    }
 }
 
 impl ListTables {
@@ -87,64 +85,45 @@ impl ListTables {
         } }
     {
         ListTables {
-            idents: Vec::new(alloc),
-            cards: Vec::new(alloc),
-            entries: Vec::new(alloc),
-            targets: Vec::new(alloc),
+            changes: Vec::new(alloc),
             runs: Vec::new(alloc),
-            states: Vec::new(alloc),
-            counts: Vec::new(alloc),
             settled: Vec::new(alloc),
+            mirror: Some(Mirror::empty(alloc)),
         }
     }
 
-    /// A copy; memory alone can fail.
-    pub(crate) fn copy(&self, alloc: Global) -> Result<ListTables, AllocError>
-        ensures { IfOk result (λ copy. copy ≡ self.now) }
+    /// The rows in memory, where there are any.
+    fn rows(&self) -> Option<&Mirror>
+        ensures { IfSome result (λ mirror. Agrees mirror.now self.now) }
     {
-        let idents = Vec::from_slice(alloc, &self.idents)?;
-        let cards = copy_cards(alloc, &self.cards)?;
-        let entries = Vec::from_slice(alloc, &self.entries)?;
-        let targets = Vec::from_slice(alloc, &self.targets)?;
-        let runs = copy_runs(alloc, &self.runs)?;
-        let states = Vec::from_slice(alloc, &self.states)?;
-        let counts = Vec::from_slice(alloc, &self.counts)?;
-        let settled = copy_marks(alloc, &self.settled)?;
-        Ok(ListTables {
-            idents,
-            cards,
-            entries,
-            targets,
-            runs,
-            states,
-            counts,
-            settled,
-        })
+        self.mirror.as_ref()
+    }
+
+    /// The rows in memory, made again; memory alone can fail.
+    fn remade(&self, alloc: Global) -> Result<Mirror, AllocError>
+        ensures { IfOk result (λ mirror. Agrees mirror self.now) }
+    {
+        made_of(alloc, &self.changes).ok_or(AllocError)
     }
 
     /// The rows that make the library; memory alone can fail.
     pub(crate) fn library_rows(&self, alloc: Global) -> Result<LibraryRows, AllocError>
         ensures { IfOk result (AreRowsOf self.now) }
     {
-        let idents = Vec::from_slice(alloc, &self.idents)?;
-        let cards = copy_cards(alloc, &self.cards)?;
-        let entries = Vec::from_slice(alloc, &self.entries)?;
-        let targets = Vec::from_slice(alloc, &self.targets)?;
-        Ok(LibraryRows {
-            idents,
-            cards,
-            entries,
-            targets,
-        })
+        match self.rows() {
+            Some(mirror) => mirror.library_rows(alloc),
+            None => self.remade(alloc)?.library_rows(alloc),
+        }
     }
 
     /// The library; memory alone can fail.
     pub(crate) fn library(&self, alloc: Global) -> Result<Library, AllocError>
         ensures { (l : LibraryView) → IsSound l → IsWhole l → Shows self.now l → IfOk result (λ found. found ≡ l) }
     {
-        let rows = self.library_rows(alloc)?;
-        let library = assembled(alloc, rows)?;
-        Ok(library)
+        match self.rows() {
+            Some(mirror) => mirror.library(alloc),
+            None => self.remade(alloc)?.library(alloc),
+        }
     }
 
     /// The library without the decks that aren't of these ages; memory alone can fail.
@@ -152,9 +131,10 @@ impl ListTables {
         ensures { (l : LibraryView) → IsSound l → IsWhole l → Shows self.now l
             → IfOk result (λ found. found ≡ part_of ages.now l) }
     {
-        let rows = self.library_rows(alloc)?;
-        let library = assembled_part(alloc, rows, ages)?;
-        Ok(library)
+        match self.rows() {
+            Some(mirror) => mirror.part(alloc, ages),
+            None => self.remade(alloc)?.part(alloc, ages),
+        }
     }
 
     /// The run that is kept under a key.
@@ -162,7 +142,7 @@ impl ListTables {
         ensures { option_copied result ≡ run_at site.now number self.now }
     {
         for run in &self.runs {
-            if run.site.as_str() == site && run.number == number {
+            if run.number == number && run.site.as_str() == site {
                 return Some(run);
             }
         }
@@ -186,9 +166,10 @@ impl ListTables {
         ensures read { IfOk result (λ found. AreRead self.now found) }
         ensures order { IfOk result AreByKey }
     {
-        let states = state_pairs(alloc, &self.states)?;
-        let counts = count_pairs(alloc, &self.counts)?;
-        Ok(states_by_key(States { states, counts }))
+        match self.rows() {
+            Some(mirror) => mirror.states(alloc),
+            None => self.remade(alloc)?.states(alloc),
+        }
     }
 
     /// The statuses of those of these cards that have one, and all counts, by their keys; only memory can run out.
@@ -196,8 +177,10 @@ impl ListTables {
         ensures read { IfOk result (λ found. AreReadOf cards.now self.now found) }
         ensures order { IfOk result AreByKey }
     {
-        let states = self.all_states(alloc)?;
-        states_among(alloc, states, cards)
+        match self.rows() {
+            Some(mirror) => mirror.states_of(alloc, cards),
+            None => self.remade(alloc)?.states_of(alloc, cards),
+        }
     }
 
     /// The decks other than `YANK$$$` that hold one of these cards; memory alone can fail.
@@ -209,8 +192,21 @@ impl ListTables {
         ensures { (l : LibraryView) → IsSound l → Shows self.now l
             → IfOk result (λ found. found.items ≡ decks_with cards.now l) }
     {
-        let ages = ages_of_decks(alloc, &self.cards, cards)?;
-        Ok(decks_by_age(ages))
+        match self.rows() {
+            Some(mirror) => mirror.decks_of(alloc, cards),
+            None => self.remade(alloc)?.decks_of(alloc, cards),
+        }
+    }
+
+    /// The same, and whether `YANK$$$` holds one of them; memory alone can fail.
+    pub(crate) fn homes_of(&self, alloc: Global, cards: &[CardRef]) -> Result<Homes, AllocError>
+        ensures { (l : LibraryView) → IsSound l → Shows self.now l
+            → IfOk result (λ found. AreHomes cards.now l found) }
+    {
+        match self.rows() {
+            Some(mirror) => mirror.homes_of(alloc, cards),
+            None => self.remade(alloc)?.homes_of(alloc, cards),
+        }
     }
 
     /// The active cards, by the table of statuses; memory alone can fail.
@@ -218,11 +214,10 @@ impl ListTables {
         ensures { (l : LibraryView) → IsSound l → Shows self.now l → ShowsStates self.now l
             → IfOk result (λ found. found ≡ actives_of l) }
     {
-        let idents = Vec::from_slice(alloc, &self.idents)?;
-        let cards = copy_cards(alloc, &self.cards)?;
-        let states = Vec::from_slice(alloc, &self.states)?;
-        let actives = assembled_active(alloc, idents, cards, states)?;
-        Ok(actives)
+        match self.rows() {
+            Some(mirror) => mirror.actives(alloc),
+            None => self.remade(alloc)?.actives(alloc),
+        }
     }
 
     /// One commit: where memory runs out nothing is changed.
@@ -236,10 +231,16 @@ impl ListTables {
             → self.new ≡ committed (map change_view changes.now) run self.old) }
         ensures undone { OnErr result (self.new ≡ self.old) }
     {
-        let mut tables = self.copy(alloc)?;
-        tables.carry_out_all(changes)?;
-        tables.runs.push(run)?;
-        *self = tables;
+        let mut copies = copy_changes(alloc, changes)?;
+        self.runs.reserve(1)?;
+        self.changes.append(&mut copies)?;
+        if self.runs.push(run).is_err() {
+            unreachable!();
+        }
+        self.mirror = changed(alloc, self.mirror.take(), changes);
+        if self.mirror.is_none() {
+            self.mirror = made_of(alloc, &self.changes);
+        }
         Ok(())
     }
 
@@ -266,28 +267,6 @@ impl ListTables {
         drop_runs(&mut self.runs, site, number);
         Ok(number)
     }
-}
-
-/// The cards of rows with their statuses; memory alone can fail.
-fn state_pairs(alloc: Global, rows: &[StateRow]) -> Result<Vec<(CardRef, bool)>, AllocError>
-    ensures { IfOk result (λ pairs. pairs.items ≡ map state_pair rows.now) }
-{
-    let mut pairs = Vec::with_capacity(alloc, rows.len())?;
-    for row in rows {
-        pairs.push((row.card, row.active))?;
-    }
-    Ok(pairs)
-}
-
-/// The targets of rows with their counts; memory alone can fail.
-fn count_pairs(alloc: Global, rows: &[CountRow]) -> Result<Vec<(Target, u32)>, AllocError>
-    ensures { IfOk result (λ pairs. pairs.items ≡ map count_pair rows.now) }
-{
-    let mut pairs = Vec::with_capacity(alloc, rows.len())?;
-    for row in rows {
-        pairs.push((row.target, row.n))?;
-    }
-    Ok(pairs)
 }
 
 /// Puts a mark in the place of the site's other marks; where memory runs out nothing is changed.
@@ -318,26 +297,4 @@ fn drop_runs(runs: &mut Vec<RunRow>, site: &str, number: u64)
     ensures { runs.new.items ≡ filter (λ r. not (is_settled site.now number r)) runs.old.items }
 {
     runs.retain(|run| !(run.site.as_str() == site && run.number <= number));
-}
-
-/// A copy of rows of runs; memory alone can fail.
-fn copy_runs(alloc: Global, runs: &[RunRow]) -> Result<Vec<RunRow>, AllocError>
-    ensures { IfOk result (λ copies. copies.items ≡ runs.now) }
-{
-    let mut copies = Vec::with_capacity(alloc, runs.len())?;
-    for run in runs {
-        copies.push(copy_run(alloc, run)?)?;
-    }
-    Ok(copies)
-}
-
-/// A copy of marks; memory alone can fail.
-fn copy_marks(alloc: Global, marks: &[MarkRow]) -> Result<Vec<MarkRow>, AllocError>
-    ensures { IfOk result (λ copies. copies.items ≡ marks.now) }
-{
-    let mut copies = Vec::with_capacity(alloc, marks.len())?;
-    for mark in marks {
-        copies.push(mark.copy(alloc)?)?;
-    }
-    Ok(copies)
 }

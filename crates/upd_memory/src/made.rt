@@ -5,6 +5,7 @@ ghost use Rattle.upd_records.specs.Rows.{IsSame, Rows};
 ghost use Rattle.upd_row_store.specs.Keeping.{Keeps};
 ghost use Rattle.upd_row_store.specs.Assembling.{AreRowsOf};
 ghost use Rattle.upd_row_store.specs.Tables.{AreRead, count_pair};
+ghost use Rattle.upd_memory.specs.Lists.{no_rows};
 ghost use Rattle.upd_memory.specs.Mirrored.{Agrees, AgreesIfAny, state_row};
 
 use crate::mirror::Mirror;
@@ -37,6 +38,13 @@ impl Mirror {
             statuses: BTreeMap::new(alloc),
             counts,
         }
+    }
+
+    /// A mirror of empty tables. It does not allocate.
+    pub(crate) fn empty(alloc: Global) -> Mirror
+        ensures { Agrees result no_rows }
+    {
+        Mirror::without_cards(alloc, Vec::new(alloc), Vec::new(alloc), Vec::new(alloc))
     }
 
     fn add_cards(&mut self, cards: &[CardRow]) -> Option<()>

@@ -1,25 +1,29 @@
 //! The rows of a library and its statuses in memory, and how row changes change them.
 
-ghost use Rattle.std.specs.Prelude.{◌≡◌, ◌==◌, ◌∷◌, ◌++◌, [], not, map, OnSome};
+ghost use Rattle.std.specs.Prelude.{◌≡◌, ◌==◌, ◌∷◌, ◌++◌, [], not, List, map, OnSome};
 ghost use Rattle.std.specs.List.{filter};
 ghost use Rattle.upd_records.specs.Changes.{change_view, done, done_all};
-ghost use Rattle.upd_records.specs.Changes.{CardGone, CardNew, CountNow};
+ghost use Rattle.upd_records.specs.Changes.{CardNew, CountNow};
 ghost use Rattle.upd_records.specs.Changes.{EntriesGone, EntryNew, IdentNew, IdentPurged};
 ghost use Rattle.upd_records.specs.Changes.{StatusNow, TargetNew, TargetsGone};
-ghost use Rattle.upd_records.specs.Fits.{AllFit, Fits};
-ghost use Rattle.upd_records.specs.Rows.{Rows, same_ref};
+ghost use Rattle.upd_records.specs.Fits.{AllFit};
+ghost use Rattle.upd_records.specs.Rows.{MarkRow, Rows, RunView, same_ref};
+ghost use Rattle.upd_shifts.specs.Ranges.{is_among, without_cards, without_rows};
 ghost use Rattle.upd_shifts.specs.Shifts.{as_change};
+ghost use Rattle.upd_shifts.specs.declared.ranges.CardRows.TheVariants.{Card, Entries, Targets};
+ghost use Rattle.upd_memory.specs.Lists.{made_tables};
 ghost use Rattle.upd_memory.specs.Mirrored.{Agrees, AgreesIfAny};
 
+use crate::card_sets::{drop_set_of_all, homes_listed, set_of};
 use crate::tables::{
-    add_card, add_entry, drop_at_home, drop_count, drop_entries, drop_home, drop_status, home_of,
+    add_card, add_entry, drop_count, drop_entries, drop_homes, drop_statuses, home_of,
     place_cards_of, put_home, put_status,
 };
 use std::alloc::Global;
 use std::collections::BTreeMap;
 use upd_core::{CardRef, Change, Entry, Ident, Serial, Target};
 use upd_records::{CardRow, EntryRow, TargetRow, drop_targets, purge_ident};
-use upd_shifts::{Move, moves_of, part_ahead, pieces_of};
+use upd_shifts::{GoneCards, Move, gone_cards, moves_of, part_ahead, pieces_of};
 
 /// The rows of idents, cards, entries and targets, the statuses and the counts.
 pub struct Mirror {
@@ -78,12 +82,16 @@ impl Mirror {
         Some(())
     }
 
-    fn take_card(&mut self, card: &CardRef)
-        ensures { (rows : Rows) → Agrees self.old rows → Agrees self.new (done (CardGone card.now) rows) }
+    /// Takes cards away, those of a deck at once.
+    fn take_cards(&mut self, alloc: Global, cards: &[CardRef]) -> Option<()>
+        ensures { OnSome result ((rows : Rows) → Agrees self.old rows → Agrees self.new (without_rows Card (is_among cards.now) rows)) }
     {
-        drop_at_home(&mut self.decks, &self.homes, card);
-        drop_home(&mut self.homes, card);
-        drop_status(&mut self.statuses, card);
+        let gone = set_of(alloc, cards).ok()?;
+        let decks = homes_listed(alloc, &self.homes, cards).ok()?;
+        drop_set_of_all(&mut self.decks, &decks, &gone);
+        drop_homes(&mut self.homes, cards);
+        drop_statuses(&mut self.statuses, cards);
+        Some(())
     }
 
     /// Makes moves of the cards of a deck, each card at once.
@@ -111,6 +119,14 @@ impl Mirror {
         self.entry_count = self.entry_count.saturating_sub(gone as u64);
     }
 
+    fn take_all_entries(&mut self, cards: &[CardRef])
+        ensures { (rows : Rows) → Agrees self.old rows → Agrees self.new (without_rows Entries (is_among cards.now) rows) }
+    {
+        for card in cards {
+            self.take_entries(card);
+        }
+    }
+
     fn add_target(&mut self, row: TargetRow) -> Option<()>
         ensures { OnSome result ((rows : Rows) → Agrees self.old rows
             → Agrees self.new (record rows { targets = rows.targets ++ row ∷ [] })) }
@@ -124,6 +140,23 @@ impl Mirror {
             → Agrees self.new (record rows { targets = filter (λ r. not (same_ref card.now r.card)) rows.targets }) }
     {
         drop_targets(&mut self.targets, card);
+    }
+
+    fn take_all_targets(&mut self, cards: &[CardRef])
+        ensures { (rows : Rows) → Agrees self.old rows → Agrees self.new (without_rows Targets (is_among cards.now) rows) }
+    {
+        for card in cards {
+            self.take_targets(card);
+        }
+    }
+
+    /// Takes rows of cards away.
+    fn take_gone(&mut self, alloc: Global, gone: &GoneCards) -> Option<()>
+        ensures { OnSome result ((rows : Rows) → Agrees self.old rows → Agrees self.new (without_cards gone.now rows)) }
+    {
+        self.take_all_entries(&gone.entries);
+        self.take_all_targets(&gone.targets);
+        self.take_cards(alloc, &gone.cards)
     }
 
     fn put_status(&mut self, card: CardRef, active: bool) -> Option<()>
@@ -148,7 +181,7 @@ impl Mirror {
 
     /// Carries out one change; where it can't, it may be done in part.
     fn carry_out(&mut self, alloc: Global, change: &Change) -> Option<()>
-        ensures { OnSome result ((rows : Rows) → Agrees self.old rows → Fits (change_view change.now) rows
+        ensures { OnSome result ((rows : Rows) → Agrees self.old rows
             → Agrees self.new (done (change_view change.now) rows)) }
     {
         match change {
@@ -168,7 +201,7 @@ impl Mirror {
                     body,
                 })?
             }
-            Change::CardGone(card) => self.take_card(card),
+            Change::CardGone(card) => self.take_cards(alloc, &[*card])?,
             Change::CardsMoved { deck, from, by } => self.move_deck(
                 alloc,
                 *deck,
@@ -200,7 +233,7 @@ impl Mirror {
 
     /// Carries out changes in order, one after another; where one can't be carried out, they may be done in part.
     fn carry_out_each(&mut self, alloc: Global, changes: &[Change]) -> Option<()>
-        ensures { OnSome result ((rows : Rows) → Agrees self.old rows → AllFit (map change_view changes.now) rows
+        ensures { OnSome result ((rows : Rows) → Agrees self.old rows
             → Agrees self.new (done_all (map change_view changes.now) rows)) }
     {
         for change in changes {
@@ -209,9 +242,9 @@ impl Mirror {
         Some(())
     }
 
-    /// Carries out changes in order: at once, where they are moves of one deck.
+    /// Carries out changes in order: at once, where they are moves of one deck, or where rows of cards go.
     fn carry_out_part(&mut self, alloc: Global, changes: &[Change]) -> Option<()>
-        ensures { OnSome result ((rows : Rows) → Agrees self.old rows → AllFit (map change_view changes.now) rows
+        ensures { OnSome result ((rows : Rows) → Agrees self.old rows
             → Agrees self.new (done_all (map change_view changes.now) rows)) }
     {
         match changes.first() {
@@ -219,13 +252,16 @@ impl Mirror {
                 let moves = moves_of(alloc, *deck, changes)?;
                 self.move_deck(alloc, *deck, &moves)
             }
-            _ => self.carry_out_each(alloc, changes),
+            _ => match gone_cards(alloc, changes) {
+                Some(gone) => self.take_gone(alloc, &gone),
+                None => self.carry_out_each(alloc, changes),
+            },
         }
     }
 
     /// Carries out changes in order; where one can't be carried out, they may be done in part.
     fn carry_out_all(&mut self, alloc: Global, changes: &[Change]) -> Option<()>
-        ensures { OnSome result ((rows : Rows) → Agrees self.old rows → AllFit (map change_view changes.now) rows
+        ensures { OnSome result ((rows : Rows) → Agrees self.old rows
             → Agrees self.new (done_all (map change_view changes.now) rows)) }
     {
         let mut rest = changes;
@@ -238,32 +274,28 @@ impl Mirror {
     }
 }
 
-/// The rows of a deck are walked for each card that goes. From so many rows a card on it costs less to read all rows again.
-const WALKED_A_CARD: usize = 800;
-
-/// Whether so many cards go, one after another, that it costs less to read the rows again.
-fn go_often(mirror: &Mirror, changes: &[Change]) -> bool {
-    let mut walked: usize = 0;
-    for change in changes {
-        if let Change::CardGone(card) = change
-            && let Some(deck) = home_of(&mirror.homes, card)
-            && let Some(rows) = mirror.decks.get(&deck)
-        {
-            walked = walked.saturating_add(rows.len());
-        }
-    }
-    walked > mirror.homes.len().saturating_mul(WALKED_A_CARD)
+/// A mirror after changes; none where there was none, or where they can't be carried out.
+pub(crate) fn changed(alloc: Global, mirror: Option<Mirror>, changes: &[Change]) -> Option<Mirror>
+    ensures { (rows : Rows) → AgreesIfAny mirror rows
+        → AgreesIfAny result (done_all (map change_view changes.now) rows) }
+{
+    let mut mirror = mirror?;
+    mirror.carry_out_all(alloc, changes)?;
+    Some(mirror)
 }
 
-/// A mirror after changes; none where there was none, where they can't be carried out, or where it isn't worth it.
+/// A mirror of the rows that changes make of empty tables; none where they can't be carried out.
+pub(crate) fn made_of(alloc: Global, changes: &[Change]) -> Option<Mirror>
+    ensures { (runs : List RunView) → (marks : List MarkRow)
+        → AgreesIfAny result (made_tables changes.now runs marks) }
+{
+    changed(alloc, Some(Mirror::empty(alloc)), changes)
+}
+
+/// The same, of changes that fit the rows.
 pub(crate) fn carried(alloc: Global, mirror: Option<Mirror>, changes: &[Change]) -> Option<Mirror>
     ensures { (rows : Rows) → AgreesIfAny mirror rows → AllFit (map change_view changes.now) rows
         → AgreesIfAny result (done_all (map change_view changes.now) rows) }
 {
-    let mut mirror = mirror?;
-    if go_often(&mirror, changes) {
-        return None;
-    }
-    mirror.carry_out_all(alloc, changes)?;
-    Some(mirror)
+    changed(alloc, mirror, changes)
 }

@@ -8,15 +8,16 @@ ghost use Rattle.std.specs.Ordering.{is_eq};
 ghost use Rattle.upd_text.specs.Order.{by_name};
 ghost use Rattle.upd_text.specs.declared.card_ref.CardRef.{CardRef};
 ghost use Rattle.upd_core.specs.Targets.{is_same};
-ghost use Rattle.upd_records.specs.Rows.{IsSame, same_ref};
+ghost use Rattle.upd_records.specs.Rows.{CardRow, IsSame, StateRow};
 ghost use Rattle.upd_shifts.specs.declared.moves.Move.{Move};
+ghost use Rattle.upd_shifts.specs.Ranges.{is_among};
 ghost use Rattle.upd_shifts.specs.Shifts.{IsPiece, moved_all};
-ghost use Rattle.upd_memory.specs.RowsByKey.{cards_at, entries_at, is_home, moved_place, placed_row};
+ghost use Rattle.upd_memory.specs.RowsByKey.{AreHomes, AreStatuses, cards_at, entries_at, is_home};
 
 use std::alloc::{AllocError, Global};
 use std::collections::BTreeMap;
 use upd_core::{CardRef, Serial, Target};
-use upd_records::{CardRow, EntryRow, drop_card};
+use upd_records::{CardRow, EntryRow};
 use upd_shifts::{Piece, place_by};
 
 // ---- counts, in any order
@@ -49,45 +50,6 @@ pub(crate) fn add_card(
         (if row.deck == d then cards_at decks.old d ++ row ∷ [] else cards_at decks.old d)) }
 {
     insert_card(decks.entry(row.deck)?.or_default(), row)
-}
-
-/// Takes a card's row out of a deck.
-fn drop_card_of(decks: &mut BTreeMap<Serial, Vec<CardRow>>, deck: Serial, card: &CardRef)
-    ensures { (d : ℕ) → cards_at decks.new d ≡ (if deck == d
-        then filter (λ r. not (same_ref card.now r.card)) (cards_at decks.old d) else cards_at decks.old d) }
-{
-    if let Some(cards) = decks.get_mut(&deck) {
-        drop_card(cards, card);
-    }
-}
-
-/// A place moved by a signed distance.
-fn moved(place: u32, by: i64) -> u32
-    ensures { result ≡ moved_place by place }
-{
-    let place = u64::from(place).saturating_add_signed(by);
-    match u32::try_from(place) {
-        Ok(place) => place,
-        Err(_) => u32::MAX,
-    }
-}
-
-/// Moves a card where it is in a deck at a place or after it.
-fn move_card(row: &mut CardRow, deck: Serial, from: u32, by: &i64)
-    ensures { row.new ≡ placed_row deck from by.now row.old }
-{
-    if row.deck == deck && from <= row.pos {
-        row.pos = moved(row.pos, *by);
-    }
-}
-
-/// Moves the cards of a deck that are at a place or after it.
-pub(crate) fn move_cards(cards: &mut [CardRow], deck: Serial, from: u32, by: &i64)
-    ensures { cards.new ≡ map (placed_row deck from by.now) cards.old }
-{
-    for row in cards.iter_mut() {
-        move_card(row, deck, from, by);
-    }
 }
 
 /// Moves a card where it is in a deck, by the pieces of the deck's moves.
@@ -141,7 +103,7 @@ pub(crate) fn put_home(
 }
 
 /// A card is in no deck.
-pub(crate) fn drop_home(homes: &mut BTreeMap<CardRef, Serial>, card: &CardRef)
+fn drop_home(homes: &mut BTreeMap<CardRef, Serial>, card: &CardRef)
     ensures { (c : CardRef) (d : ℕ) → is_home homes.new c d
         ≡ (if is_eq (by_name card.now c) then false else is_home homes.old c d) }
 {
@@ -155,17 +117,12 @@ pub(crate) fn home_of(homes: &BTreeMap<CardRef, Serial>, card: &CardRef) -> Opti
     homes.get(card).copied()
 }
 
-/// Takes a card's row out of the deck that it is known to be in.
-pub(crate) fn drop_at_home(
-    decks: &mut BTreeMap<Serial, Vec<CardRow>>,
-    homes: &BTreeMap<CardRef, Serial>,
-    card: &CardRef,
-)
-    ensures { (d : ℕ) → cards_at decks.new d ≡ (if is_home homes.now card.now d
-        then filter (λ r. not (same_ref card.now r.card)) (cards_at decks.old d) else cards_at decks.old d) }
+/// Cards are in no deck.
+pub(crate) fn drop_homes(homes: &mut BTreeMap<CardRef, Serial>, cards: &[CardRef])
+    ensures { (rows : List CardRow) → AreHomes homes.old rows → AreHomes homes.new (filter (λ r. not (is_among cards.now r.card)) rows) }
 {
-    if let Some(deck) = home_of(homes, card) {
-        drop_card_of(decks, deck, card);
+    for card in cards {
+        drop_home(homes, card);
     }
 }
 
@@ -185,11 +142,21 @@ pub(crate) fn put_status(
 }
 
 /// Takes the status of a card away.
-pub(crate) fn drop_status(statuses: &mut BTreeMap<CardRef, bool>, card: &CardRef)
+fn drop_status(statuses: &mut BTreeMap<CardRef, bool>, card: &CardRef)
     ensures { (c : CardRef) → get by_name statuses.new c
         ≡ (if is_eq (by_name card.now c) then None else get by_name statuses.old c) }
 {
     statuses.remove(card);
+}
+
+/// Takes the statuses of cards away.
+pub(crate) fn drop_statuses(statuses: &mut BTreeMap<CardRef, bool>, cards: &[CardRef])
+    ensures { (rows : List StateRow) → AreStatuses statuses.old rows
+        → AreStatuses statuses.new (filter (λ r. not (is_among cards.now r.card)) rows) }
+{
+    for card in cards {
+        drop_status(statuses, card);
+    }
 }
 
 /// The status of a card.

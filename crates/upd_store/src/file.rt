@@ -146,29 +146,30 @@ fn refuse_foreign(rt: &HostRuntime, path: &str) -> Result<(), Fault>
     }
 }
 
-/// Store at 0 where a file's first byte is neither 0, as in one whose making was cut off, nor that of a file of SQLite.
+/// Store at 0 where a file begins as no library does, and as no file whose making was cut off.
 fn refuse_text(rt: &HostRuntime, path: &str) -> Result<(), Fault>
     ensures lost { IfErr result IsLost }
 {
-    match first_byte(rt, path) {
-        Ok(None | Some(0 | b'S')) => Ok(()),
-        Ok(Some(_)) => Err(store_at(0)),
+    match begins_as_text(rt, path) {
+        Ok(false) => Ok(()),
+        Ok(true) => Err(store_at(0)),
         Err(error) => Err(file_fault(error)),
     }
 }
 
-/// The first byte of a file, if it has one. What is no file is not opened: that could wait for ever.
-fn first_byte(rt: &HostRuntime, path: &str) -> io::Result<Option<u8>> {
+/// Whether a file's first byte is neither 0, as in one whose making was cut off, nor that of a file of SQLite. What is no file
+/// is not opened: that could wait for ever.
+fn begins_as_text(rt: &HostRuntime, path: &str) -> io::Result<bool> {
     if !fs::metadata(rt, path)?.is_file() {
-        return Ok(None);
+        return Ok(false);
     }
     let mut first = [0u8; 1];
     let count = fs::open(rt, path)?.read(&mut first)?;
-    Ok((count == 1).then_some(first[0]))
+    Ok(count == 1 && first[0] != 0 && first[0] != FIRST_BYTES[0])
 }
 
 /// Whether SQLite reads a path as something else than a file's name.
-pub(crate) fn is_no_path(path: &str) -> bool {
+fn is_no_path(path: &str) -> bool {
     path == ":memory:" || path.starts_with("file:")
 }
 

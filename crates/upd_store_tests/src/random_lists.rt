@@ -16,7 +16,7 @@ use upd_testkit::reference_rows::reference_tables;
 use upd_testkit::session::Session;
 
 /// A store over which random lists are tried.
-trait Tried: Fresh {
+pub trait Tried: Fresh {
     /// Whether its rows are in memory.
     fn is_in_memory(&self) -> bool;
 

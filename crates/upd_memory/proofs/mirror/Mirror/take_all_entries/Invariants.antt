@@ -1,0 +1,8 @@
+use Rattle.upd_memory.proofs.Common.{take, Agrees, Rows}
+use Rattle.upd_shifts.specs.Ranges.{is_among, without_rows}
+use Rattle.upd_shifts.specs.declared.ranges.CardRows.TheVariants.{Entries}
+use Rattle.upd_memory.proofs.mirror.Mirror.take_all_entries.Given as goal
+
+abbrev pub invariant-loop-card : goal.invariant-loop-card
+invariant-loop-card l =
+    (rows : Rows) → Agrees l.initial.self rows → Agrees l.self (without_rows Entries (is_among (take l.card-index l.cards)) rows)
