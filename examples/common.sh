@@ -189,7 +189,7 @@ look() {
     done
     # A known serial shows that the ident is still the one that was seen.
     if [ "$serial" != - ]; then sed '/ was purged and came again: /d' "$work/warnings" >"$work/known" && mv "$work/known" "$work/warnings" || exit 3; fi
-    grep -E ' came after [^ ]*( and is deleted)?$| was purged and came again: ' "$work/warnings" >"$work/conflicts" || return 0
+    grep -E ' came after [^ ]*( and is deleted)?$| by yanks after [^ ]*$| was purged and came again: ' "$work/warnings" >"$work/conflicts" || return 0
 }
 
 # Sends a run, with its reply to work/reply. Where it or a later one of its edit meets what others have done, only if `over_changes`

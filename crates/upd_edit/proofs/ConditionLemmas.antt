@@ -1,6 +1,6 @@
 -- What comes of a run with a condition.
-use Rattle.upd_edit.proofs.Common.{◌≡◌, ◌∙◌, ℕ, Bool, true, false, List, [], Some, None, Ok, Err, sym, subst, ap, fails_owed, LibraryView}
-use Rattle.std.proofs.Common.{inl, inr, refl, ◌⊎◌, Option, Result, if◌then◌else◌}
+use Rattle.upd_edit.proofs.Common.{◌≡◌, ◌∙◌, ℕ, Bool, false, List, [], Some, None, Ok, Err, sym, subst, ap, fails_owed, LibraryView}
+use Rattle.std.proofs.Common.{inl, inr, ◌⊎◌, Option, Result, if◌then◌else◌}
 use Rattle.std.proofs.lemmas.Bool.{false≢true}
 use Rattle.upd_text.specs.declared.fault.Fault.{Fault}
 use Rattle.upd_text.specs.declared.fault.FaultKind.TheVariants.{IdentUnknown}
@@ -17,6 +17,7 @@ use Rattle.upd_desk.specs.Outcomes.{ReplyView}
 use Rattle.upd_desk.proofs.ArrivesLemmas.{keeps_arrives, loses, lost_kind}
 use Rattle.upd_edit.specs.declared.warning.Warning.{Warning}
 use Rattle.upd_edit.specs.Conditions.{ArrivesSince, IsLookFault, stops}
+use Rattle.upd_edit.specs.Conflicts.{SeenView}
 use Rattle.upd_edit.specs.Found.{conflicts_among}
 use Rattle.upd_edit.specs.Warnings.{conflicts, read_warnings}
 
@@ -24,7 +25,10 @@ use Rattle.upd_edit.specs.Warnings.{conflicts, read_warnings}
 pub conflicts_met : (since run : List ℕ) (l : LibraryView) (f : Fault) → conflicts since run l ≡ Err f → f ≡ fault_at IdentUnknown 0
 conflicts_met since run l f is = by (ident_of since l) is
   where
-    by : (o : Option ℕ) → (((at_line 0 (need IdentUnknown o) >>= (λ z. Ok (Some z))) >>= (λ z. Ok (read_warnings run (reading run) z l)))
+    seen : LibraryView → ℕ → SeenView
+    seen l z = record { library = l; since = z }
+
+    by : (o : Option ℕ) → (((at_line 0 (need IdentUnknown o) >>= (λ z. Ok (seen l z))) >>= (λ s. Ok (read_warnings run (reading run) (Some since) s)))
         >>= (λ list. Ok (conflicts_among list))) ≡ Err f → f ≡ fault_at IdentUnknown 0
     by (Some z) e = absurd (cc)
     by None e = let same : fault_at IdentUnknown 0 ≡ f = cc e in sym same
@@ -51,13 +55,6 @@ module _ {S : Type 0} (meaning : Ghosts S) where
 
       there : IsHeld meaning j mid
       there is = subst (HoldsIn shows j) (sym (first.same before is)) (held (first.later.was_open before is))
-
-  -- nothing stops a run whose number is known
-  pub stops_known : (since site : List ℕ) (n : ℕ) (run : List ℕ) (old new : S) → EachHeld meaning old new (λ j. true ≡ is_known j site n)
-      → EachHeld meaning old new (λ j. stops since site n run j ≡ Ok [])
-  stops_known since site n run old new known honest j held =
-      let IsNone : Bool → Type 0 = λ known. (if known then Ok [] else conflicts since run (library_after j)) ≡ Ok [] in
-      subst IsNone (known honest j held) refl
 
   -- nothing stopped it, and it arrived
   pub arrived : (since : List ℕ) (a : ArrivalView) (met : List Warning) (reply : ReplyView) (old mid new : S) → Keeps meaning old mid → met ≡ []

@@ -7,6 +7,7 @@ use Rattle.std.specs.Str.{bytes_eq}
 use Rattle.upd_text.specs.declared.card_ref.CardRef.{CardRef}
 use Rattle.upd_text.specs.declared.fault.Fault.{Fault}
 use Rattle.upd_text.specs.declared.fault.FaultKind.TheVariants.{IdentUnknown}
+use Rattle.upd_text.specs.declared.limits.TheConstants.{MAX_INTRODUCED}
 use Rattle.upd_text.specs.Lines.{is_comment, is_starred, word}
 use Rattle.upd_text.specs.Outcome.{◌>>=◌, at_line, need}
 use Rattle.upd_text.specs.Units.{Bytes}
@@ -18,12 +19,13 @@ use Rattle.upd_core.specs.Serials.{Serial}
 use Rattle.upd_core.specs.Status.{is_taken, live_targets}
 use Rattle.upd_deck.specs.Items.{ItemView, LineView, Text, Insert, Before, Delete, Restore, Yank, Purge}
 use Rattle.upd_deck.specs.Reading.{is_feed, reading}
+use Rattle.upd_edit.specs.declared.warning.Conflict.{Conflict as Met}
 use Rattle.upd_edit.specs.declared.warning.Conflict.TheVariants.{CameAgain}
 use Rattle.upd_edit.specs.declared.warning.TakingWord.TheVariants as words
 use Rattle.upd_edit.specs.declared.warning.Warning.{Warning}
 use Rattle.upd_edit.specs.declared.warning.WarningKind.{WarningKind}
 use Rattle.upd_edit.specs.declared.warning.WarningKind.TheVariants.{Comments, Conflict, Empty, NearWord, OffAlready, Wide}
-use Rattle.upd_edit.specs.Conflicts.{before_conflict, insert_conflict, range_conflict}
+use Rattle.upd_edit.specs.Conflicts.{SeenView, before_conflict, insert_conflict, range_conflict}
 use Rattle.upd_edit.specs.Found.{conflicts_among, found}
 use Rattle.upd_edit.specs.NearWords.{near_word}
 use Rattle.upd_edit.specs.YankWarnings.{taking_warnings}
@@ -81,17 +83,11 @@ wide_kind first last l =
     let count = cards_between (place_of first l) (place_of last l) l in
     if nat_lt narrow count then Some (Wide count) else None
 
--- ---- what younger idents have done
+-- ---- conflicts
 
--- the conflict of a range, of an `*INSERT` and of a `*BEFORE`, where an ident is given
-abbrev pub range_kind : LibraryView → Option Serial → CardRef → CardRef → Bool → Option WarningKind
-range_kind l z first last deletes = option_and_then (λ z. option_map (λ met. Conflict met) (range_conflict l z first last deletes)) z
-
-abbrev pub insert_kind : LibraryView → Option Serial → CardRef → Option WarningKind
-insert_kind l z card = option_and_then (λ z. option_map (λ met. Conflict met) (insert_conflict l z card)) z
-
-abbrev pub before_kind : LibraryView → Option Serial → CardRef → Option WarningKind
-before_kind l z card = option_and_then (λ z. option_map (λ met. Conflict met) (before_conflict l z card)) z
+-- the warning of a conflict
+abbrev pub conflict_kind : Option Met → Option WarningKind
+conflict_kind met = option_map (λ w. Conflict w) met
 
 -- whether a purged ident has a name
 abbrev pub came_again : Bytes → LibraryView → Bool
@@ -101,37 +97,37 @@ came_again name l = list_any (λ i. not i.held && bytes_eq i.name name) l.idents
 abbrev pub again_by : Bytes → LibraryView → Option WarningKind
 again_by name l = if came_again name l then Some (Conflict (CameAgain name)) else None
 
--- that of the ident with a serial, where one is given
-abbrev pub again_kind : Option Serial → LibraryView → Option WarningKind
-again_kind z l = option_and_then (λ z. again_by (name_of l.idents z) l) z
+-- that of SINCE, where it is given
+abbrev pub again_kind : Option Bytes → LibraryView → Option WarningKind
+again_kind since l = option_and_then (λ name. again_by name l) since
 
 -- ---- lines and runs
 
 -- the warnings of a range that is deleted
-abbrev pub deletion_warnings : LibraryView → Option Serial → ℕ → CardRef → CardRef → List Warning
-deletion_warnings l z line first last =
-    found line (off_kind first l)
-    ++ ((if bytes_eq first.name last.name && (first.number == last.number) then [] else found line (off_kind last l))
-    ++ (found line (wide_kind first last l) ++ found line (range_kind l z first last true)))
+abbrev pub deletion_warnings : SeenView → ℕ → CardRef → CardRef → List Warning
+deletion_warnings s line first last =
+    found line (off_kind first s.library)
+    ++ ((if bytes_eq first.name last.name && (first.number == last.number) then [] else found line (off_kind last s.library))
+    ++ (found line (wide_kind first last s.library) ++ found line (conflict_kind (range_conflict s first last true))))
 
 -- those of a range that is restored
-abbrev pub restored_warnings : LibraryView → Option Serial → ℕ → CardRef → CardRef → List Warning
-restored_warnings l z line first last = found line (wide_kind first last l) ++ found line (range_kind l z first last false)
+abbrev pub restored_warnings : SeenView → ℕ → CardRef → CardRef → List Warning
+restored_warnings s line first last = found line (wide_kind first last s.library) ++ found line (conflict_kind (range_conflict s first last false))
 
 -- the warnings of an item, with the text of its line
-abbrev pub item_warnings : LibraryView → Option Serial → ℕ → Bytes → ItemView → List Warning
-item_warnings l z line text Text = found line (text_kind text)
-item_warnings l z line text (Delete first last) = deletion_warnings l z line first last
-item_warnings l z line text (Restore first last) = restored_warnings l z line first last
-item_warnings l z line text (Insert card) = found line (insert_kind l z card)
-item_warnings l z line text (Before card) = found line (before_kind l z card)
-item_warnings l z line text (Yank names) = taking_warnings line words.Yank l names
-item_warnings l z line text (Purge names) = taking_warnings line words.Purge l names
-item_warnings l z line text _ = []
+abbrev pub item_warnings : SeenView → ℕ → Bytes → ItemView → List Warning
+item_warnings s line text Text = found line (text_kind text)
+item_warnings s line text (Delete first last) = deletion_warnings s line first last
+item_warnings s line text (Restore first last) = restored_warnings s line first last
+item_warnings s line text (Insert card) = found line (conflict_kind (insert_conflict s card))
+item_warnings s line text (Before card) = found line (conflict_kind (before_conflict s card))
+item_warnings s line text (Yank names) = taking_warnings line words.Yank s.library names
+item_warnings s line text (Purge names) = taking_warnings line words.Purge s.library names
+item_warnings s line text _ = []
 
 -- the warnings of a line
-abbrev pub line_warnings : LibraryView → Option Serial → LineView → List Warning
-line_warnings l z line = item_warnings l z line.number line.text line.item
+abbrev pub line_warnings : SeenView → LineView → List Warning
+line_warnings s line = item_warnings s line.number line.text line.item
 
 -- the warning of a run with no lines
 abbrev pub empty_kind : List LineView → Option WarningKind
@@ -139,23 +135,23 @@ empty_kind [] = Some Empty
 empty_kind (line ∷ lines) = None
 
 -- the warnings of a run that was read: of its comments, of an empty run, of SINCE, and then of its lines in order
-abbrev pub run_warnings : Bytes → List LineView → Option Serial → LibraryView → List Warning
-run_warnings run lines z l =
-    comment_warnings run ++ (found 1 (empty_kind lines) ++ (found 1 (again_kind z l) ++ flat_map (line_warnings l z) lines))
+abbrev pub run_warnings : Bytes → List LineView → Option Bytes → SeenView → List Warning
+run_warnings run lines since s =
+    comment_warnings run ++ (found 1 (empty_kind lines) ++ (found 1 (again_kind since s.library) ++ flat_map (line_warnings s) lines))
 
 -- those of a run by its reading: none where it can't be read
-abbrev pub read_warnings : Bytes → Result (List LineView) Fault → Option Serial → LibraryView → List Warning
-read_warnings run (Err fault) z l = []
-read_warnings run (Ok lines) z l = run_warnings run lines z l
+abbrev pub read_warnings : Bytes → Result (List LineView) Fault → Option Bytes → SeenView → List Warning
+read_warnings run (Err fault) since s = []
+read_warnings run (Ok lines) since s = run_warnings run lines since s
 
--- the serial of the ident with a name, where one is given
-abbrev pub serial_since : Option Bytes → LibraryView → Result (Option Serial) Fault
-serial_since None l = Ok None
-serial_since (Some name) l = at_line 0 (need IdentUnknown (ident_of name l)) >>= (λ z. Ok (Some z))
+-- what the author of a run has seen: where no name is given, all
+abbrev pub seen_by : Option Bytes → LibraryView → Result SeenView Fault
+seen_by None l = Ok (record { library = l; since = MAX_INTRODUCED })
+seen_by (Some name) l = at_line 0 (need IdentUnknown (ident_of name l)) >>= (λ z. Ok (record { library = l; since = z }))
 
 -- the warnings of a run that is tried on a library, where its author may have seen no ident later than one
 abbrev pub warning_list : Option Bytes → Bytes → LibraryView → Result (List Warning) Fault
-warning_list since run l = serial_since since l >>= (λ z. Ok (read_warnings run (reading run) z l))
+warning_list since run l = seen_by since l >>= (λ s. Ok (read_warnings run (reading run) since s))
 
 -- the conflicts of such a run
 abbrev pub conflicts : Bytes → Bytes → LibraryView → Result (List Warning) Fault

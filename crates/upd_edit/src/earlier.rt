@@ -1,6 +1,10 @@
 //! The library as it was when an ident was the youngest.
 ghost use Rattle.std.specs.Prelude.{◌≡◌, ◌≢◌, ◌⊎◌, IfErr, IfOk};
+ghost use Rattle.std.specs.Result.{IsOkUnless};
+ghost use Rattle.upd_core.specs.Status.{live_targets};
+ghost use Rattle.upd_edit.specs.Conflicts.{live_since};
 ghost use Rattle.upd_edit.specs.Earlier.{as_of, yanked, younger};
+ghost use Rattle.upd_text.specs.Faults.{fault_at};
 ghost use Rattle.upd_text.specs.Outcome.{GivesAt};
 ghost use Rattle.upd_text.specs.declared.fault.FaultKind.TheVariants.{Full, NoMemory, Store};
 
@@ -33,6 +37,22 @@ fn younger(alloc: Global, library: &Library, since: Serial) -> Result<Vec<Target
         .filter(|ident| ident.held)
         .map(|ident| Target::Set(ident.age))
         .collect(alloc)
+}
+
+/// A copy of a library with a yank card that takes all idents younger than one. It is of no ident of the directory, so
+/// only what is live is of use.
+pub(crate) fn with_younger_yanked(
+    alloc: Global,
+    library: &Library,
+    since: Serial,
+) -> Result<Library, Fault>
+    ensures live { IfOk result (λ l. live_targets l ≡ live_since since library.now) }
+    ensures err { IsOkUnless result (fault_at NoMemory 0) }
+{
+    let targets = younger(alloc, library, since)?;
+    let mut earlier = library.copy()?;
+    earlier.push_yank(Card::new(alloc, 0, 1, b"", targets)?)?;
+    Ok(earlier)
 }
 
 /// A copy of a library in which a new set yanks these targets, if there are any.

@@ -229,6 +229,7 @@ pub fn parts_at<S: RowStore>(
     ensures refused { EachHeld S.Meaning desk.old.store desk.new.store
         (λ journal. IfErr result (IsPartsRefusal (library_after journal) set.now text.now)) }
     ensures lost { IfErr result (IsEditLoss text.now) }
+    ensures short { OnOk result (length text.now ≤ MAX_TEXT_BYTES) }
     ensures long { MAX_TEXT_BYTES < length text.now
         → IfErr result (λ error. error ≡ EditError.Failed (fault_at RunLong 0)) }
     ensures same { Keeps S.Meaning desk.old.store desk.new.store }

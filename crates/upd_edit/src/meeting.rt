@@ -1,27 +1,17 @@
 //! Where a line of a run meets what idents younger than SINCE have done.
 
-ghost use Rattle.std.specs.Prelude.{◌≡◌, is_some};
-ghost use Rattle.std.specs.List.{list_any};
+ghost use Rattle.std.specs.Prelude.{◌≡◌, drop, find, take};
 ghost use Rattle.std.specs.Option.{option_copied};
 ghost use Rattle.upd_core.specs.Library.{cards_of};
-ghost use Rattle.upd_core.specs.Status.{live_of};
-ghost use Rattle.upd_edit.specs.Conflicts.{before_conflict, between, came_after, card_before, card_behind, conflict_by, counts, deed_to, end_of};
-ghost use Rattle.upd_edit.specs.Conflicts.{has_entry_of, insert_conflict, is_taker, met, met_beside, met_inside, put_beside, put_inside};
-ghost use Rattle.upd_edit.specs.Conflicts.{range_conflict, switched_by, taken_by, takes_card};
-ghost use Rattle.std.specs.Prelude.{drop, find, take};
+ghost use Rattle.upd_edit.specs.Conflicts.{before_conflict, beside_conflict, between, end_of, insert_conflict, is_changed, is_line, is_now, is_put};
+ghost use Rattle.upd_edit.specs.Conflicts.{line_before, line_behind, met, met_beside, met_inside, older_conflict, put_beside, put_inside, range_conflict};
+ghost use Rattle.upd_edit.specs.Conflicts.{since_name, switched_by, was_then, yanks_conflict};
 
 use crate::warning::Conflict;
 use crate::warnings::{name_of, ref_of};
-use upd_core::{Card, Library, Live, Place, Serial, Target};
+use std::marker::Model;
+use upd_core::{Card, Library, Live, Name, Place, Serial};
 use upd_text::CardRef;
-
-/// What an ident that is younger than SINCE has done to a card.
-#[derive(Clone, Copy, Debug)]
-pub(crate) enum Deed {
-    PutIn,
-    Switched(Serial),
-    TakenOut(Serial),
-}
 
 /// A line that names cards: which, where its change begins and ends, and whether it deletes.
 #[derive(Clone, Copy)]
@@ -49,24 +39,26 @@ impl Touched {
 }
 
 /// A library, and the serial of the youngest ident that the author of a run has seen.
-#[derive(Clone, Copy)]
+#[derive(Drop)]
 pub(crate) struct Seen<'a> {
     pub library: &'a Library,
+    /// What is live now.
     pub live: &'a Live<'a>,
+    /// What is live where all younger idents are yanked.
+    pub earlier: &'a Live<'a>,
     pub since: Serial,
 }
 
-/// Whether a target takes a card of a deck, or an ident up to one that switched it.
-fn takes_card(target: &Target, since: Serial, deck: Serial, card: &Card) -> bool
-    ensures { result ≡ takes_card since deck card.now target.now }
-{
-    match *target {
-        Target::Deck(taken) => taken == deck,
-        Target::Set(taken) => taken <= since && has_entry_of(card, taken),
-        Target::SetIn(taken, place) => {
-            place == deck && (taken <= since && has_entry_of(card, taken))
-        }
-    }
+impl<'a> Model for Seen<'a> {
+    ghost use Rattle.std.specs.Prelude.{◌≡◌};
+    ghost use Rattle.upd_core.specs.Status.{live_of};
+    ghost use Rattle.upd_edit.specs.Conflicts.{SeenView, live_since};
+
+    ghost Value = { SeenView };
+
+    ghost view = { λ s. record { library = s.library.now; since = s.since } };
+
+    ghost invariant = { λ s. (s.live.now ≡ live_of s.library.now) × (s.earlier.now.targets ≡ live_since s.since s.library.now) };
 }
 
 /// The cards before an index.
@@ -80,125 +72,88 @@ fn front_of(cards: &[Card], from: usize) -> &[Card]
     }
 }
 
-/// Whether an ident has an entry in the history of a card.
-fn has_entry_of(card: &Card, ident: Serial) -> bool
-    ensures { result ≡ has_entry_of ident card.now }
-{
-    card.history.iter().any(|entry| entry.ident == ident)
-}
-
 impl<'a> Seen<'a> {
-    /// Whether a yank card of a younger ident is live and takes a card.
-    fn is_taker(&self, deck: Serial, card: &Card, yank: &Card) -> bool
-        ensures { result ≡ is_taker self.now.live.now.targets self.now.since deck card.now yank.now }
+    /// Whether a card is in the text of its deck now.
+    fn is_now(&self, deck: Serial, card: &Card) -> bool
+        ensures { result ≡ is_now self.now deck card.now }
     {
-        self.since < yank.ident && self.live.is_good(0, yank) && self.names(deck, card, yank)
+        self.live.is_active(deck, card)
     }
 
-    /// Whether a target of a yank card takes a card.
-    fn names(&self, deck: Serial, card: &Card, yank: &Card) -> bool
-        ensures { result ≡ list_any (takes_card self.now.since deck card.now) yank.now.targets }
+    /// Whether it was as of SINCE.
+    fn was_then(&self, deck: Serial, card: &Card) -> bool
+        ensures { result ≡ was_then self.now deck card.now }
     {
-        yank.targets
-            .iter()
-            .any(|target| takes_card(target, self.since, deck, card))
+        self.earlier.is_active(deck, card)
     }
 
-    /// The ident of the first such yank card.
-    fn taken_by(&self, deck: Serial, card: &Card) -> Option<Serial>
-        ensures { result ≡ taken_by self.now.live.now.targets self.now.library.now.yanks self.now.since deck card.now }
+    /// Whether it is in one of these texts alone.
+    fn is_changed(&self, deck: Serial, card: &Card) -> bool
+        ensures { result ≡ is_changed self.now deck card.now }
     {
-        let yank = self
-            .library
-            .yanks()
-            .iter()
-            .find(|yank| self.is_taker(deck, card, yank))?;
-        Some(yank.ident)
+        if self.is_now(deck, card) {
+            !self.was_then(deck, card)
+        } else {
+            self.was_then(deck, card)
+        }
+    }
+
+    /// Whether it is in one of them.
+    fn is_line(&self, deck: Serial, card: &Card) -> bool
+        ensures { result ≡ is_line self.now deck card.now }
+    {
+        self.is_now(deck, card) || self.was_then(deck, card)
+    }
+
+    /// The name of the youngest ident that was seen.
+    fn since_name(&self) -> Name
+        ensures { result ≡ since_name self.now }
+    {
+        name_of(self.library, self.since)
     }
 
     /// The younger ident of the first entry of a card that counts.
     fn switched_by(&self, deck: Serial, card: &Card) -> Option<Serial>
-        ensures { result ≡ switched_by self.now.live.now.targets self.now.since deck card.now }
+        ensures { result ≡ switched_by self.now deck card.now }
     {
-        let entry = card.history.iter().find(|entry| self.since < entry.ident
-            && !self.live.is_taken(deck, entry.ident))?;
+        let entry = card.history.iter().find(|entry| {
+            self.since < entry.ident && !self.live.is_taken(deck, entry.ident)
+        })?;
         Some(entry.ident)
     }
 
-    /// What a younger ident has done to a card.
-    fn deed(&self, deck: Serial, card: &Card) -> Option<Deed>
-        ensures { result ≡ deed_to self.now.live.now.targets self.now.library.now.yanks self.now.since deck card.now }
+    /// The change of a card without such an entry.
+    fn yanks_conflict(&self, deck: Serial, card: &Card) -> Conflict
+        ensures { result ≡ yanks_conflict self.now deck card.now }
     {
-        if self.since < card.ident {
-            return if self.live.is_active(deck, card) {
-                Some(Deed::PutIn)
-            } else {
-                None
-            };
-        }
-        if let Some(ident) = self.switched_by(deck, card) {
-            return Some(Deed::Switched(ident));
-        }
-        let ident = self.taken_by(deck, card)?;
-        if self.live.is_active(deck, card) {
-            Some(Deed::Switched(ident))
+        let (since, is_now) = (self.since_name(), self.is_now(deck, card));
+        let card = ref_of(self.library, card);
+        if is_now {
+            Conflict::CameBack { card, since }
         } else {
-            Some(Deed::TakenOut(ident))
+            Conflict::TakenOut { card, since }
         }
     }
 
-    /// Whether a card is active and came after SINCE.
-    fn is_later(&self, deck: Serial, card: &Card) -> bool
-        ensures { result ≡ came_after self.now.live.now.targets deck self.now.since card.now }
+    /// The change of a card that was there before.
+    fn older_conflict(&self, deck: Serial, card: &Card) -> Conflict
+        ensures { result ≡ older_conflict self.now deck card.now }
     {
-        self.since < card.ident && self.live.is_active(deck, card)
-    }
-
-    /// Whether a card is active, or a younger ident has done something to it.
-    fn counts(&self, deck: Serial, card: &Card) -> bool
-        ensures { result ≡ counts self.now.live.now.targets self.now.library.now.yanks self.now.since deck card.now }
-    {
-        self.live.is_active(deck, card) || self.deed(deck, card).is_some()
-    }
-
-    /// The conflict by what was done to a card; `put_in` where it was put in.
-    fn conflict_by(&self, card: &Card, deed: Deed, put_in: Conflict) -> Conflict
-        ensures { result ≡ conflict_by self.now.library.now.idents self.now.since card.now deed put_in }
-    {
-        let since = name_of(self.library, self.since);
-        match deed {
-            Deed::PutIn => put_in,
-            Deed::Switched(ident) => Conflict::Switched {
+        match self.switched_by(deck, card) {
+            Some(ident) => Conflict::Switched {
                 card: ref_of(self.library, card),
                 by: name_of(self.library, ident),
-                since,
+                since: self.since_name(),
             },
-            Deed::TakenOut(ident) => Conflict::TakenOut {
-                card: ref_of(self.library, card),
-                by: name_of(self.library, ident),
-                since,
-            },
+            None => self.yanks_conflict(deck, card),
         }
     }
 
-    /// The conflict of a line with the first card of its range that was put in, else with the first to which a younger
-    /// ident has done something.
-    fn met_inside(&self, deck: Serial, cards: &[Card], line: &Touched) -> Option<Conflict>
-        ensures { result ≡ met_inside self.now.live.now.targets self.now.library.now.yanks self.now.library.now.idents self.now.since deck cards.now line.now }
+    /// A card was put in where a line changes the deck.
+    fn put_inside(&self, deletes: bool, card: &Card) -> Conflict
+        ensures { result ≡ put_inside self.now deletes card.now }
     {
-        if let Some(card) = self.later_card(deck, cards, line) {
-            return Some(self.put_inside(card, line.deletes));
-        }
-        let card = self.changed_card(deck, cards, line)?;
-        let deed = self.deed(deck, card)?;
-        Some(self.conflict_by(card, deed, self.put_inside(card, line.deletes)))
-    }
-
-    /// The conflict of a line with a card that was put in where it changes the deck.
-    fn put_inside(&self, card: &Card, deletes: bool) -> Conflict
-        ensures { result ≡ put_inside self.now.library.now.idents self.now.since card.now deletes }
-    {
-        let since = name_of(self.library, self.since);
+        let since = self.since_name();
         let card = ref_of(self.library, card);
         if deletes {
             Conflict::Deleted { card, since }
@@ -207,91 +162,110 @@ impl<'a> Seen<'a> {
         }
     }
 
-    /// The first card of a line's range that is active and came after SINCE.
-    fn later_card<'b>(&self, deck: Serial, cards: &'b [Card], line: &Touched) -> Option<&'b Card>
-        ensures { option_copied result ≡ find (came_after self.now.live.now.targets deck self.now.since) (drop line.now.from (take line.now.to cards.now)) }
+    /// A card was put in beside the one that a line names, or is that one.
+    fn put_beside(&self, named: &CardRef, card: CardRef) -> Conflict
+        ensures { result ≡ put_beside self.now named.now card }
     {
-        cards
-            .iter()
-            .take(line.to)
-            .skip(line.from)
-            .find(|card| self.is_later(deck, card))
-    }
-
-    /// The first card of a line's range to which a younger ident has done something.
-    fn changed_card<'b>(&self, deck: Serial, cards: &'b [Card], line: &Touched) -> Option<&'b Card>
-        ensures { option_copied result ≡ find (λ c. is_some (deed_to self.now.live.now.targets self.now.library.now.yanks self.now.since deck c)) (drop line.now.from (take line.now.to cards.now)) }
-    {
-        cards
-            .iter()
-            .take(line.to)
-            .skip(line.from)
-            .find(|card| self.deed(deck, card).is_some())
-    }
-
-    /// The last card that counts before an index.
-    fn card_before<'b>(&self, deck: Serial, cards: &'b [Card], from: usize) -> Option<&'b Card>
-        ensures { option_copied result ≡ card_before self.now.live.now.targets self.now.library.now.yanks self.now.since deck cards.now from }
-    {
-        front_of(cards, from)
-            .iter()
-            .rev()
-            .find(|card| self.counts(deck, card))
-    }
-
-    /// The first card that counts from an index on.
-    fn card_behind<'b>(&self, deck: Serial, cards: &'b [Card], to: usize) -> Option<&'b Card>
-        ensures { option_copied result ≡ card_behind self.now.live.now.targets self.now.library.now.yanks self.now.since deck cards.now to }
-    {
-        cards.iter().skip(to).find(|card| self.counts(deck, card))
-    }
-
-    /// The conflict of a line that names a card with a card beside it.
-    fn met_beside(&self, deck: Serial, named: &CardRef, beside: Option<&Card>) -> Option<Conflict>
-        ensures { result ≡ met_beside self.now.live.now.targets self.now.library.now.yanks self.now.library.now.idents self.now.since deck named.now (option_copied beside.entry) }
-    {
-        let card = beside?;
-        let deed = self.deed(deck, card)?;
-        Some(self.conflict_by(card, deed, self.put_beside(named, card)))
-    }
-
-    /// The conflict of a line that names a card with one that was put beside it; it may be the card itself.
-    fn put_beside(&self, named: &CardRef, card: &Card) -> Conflict
-        ensures { result ≡ put_beside self.now.library.now.idents self.now.since named.now card.now }
-    {
-        let since = name_of(self.library, self.since);
-        let next = ref_of(self.library, card);
-        if *named == next {
-            Conflict::CameLater { card: next, since }
+        let since = self.since_name();
+        if *named == card {
+            Conflict::CameLater { card, since }
         } else {
             Conflict::Beside {
                 card: *named,
-                next,
+                next: card,
                 since,
             }
         }
     }
 
+    /// The change of a card beside the one that a line names.
+    fn beside_conflict(&self, deck: Serial, named: &CardRef, card: &Card) -> Conflict
+        ensures { result ≡ beside_conflict self.now deck named.now card.now }
+    {
+        if self.since < card.ident {
+            self.put_beside(named, ref_of(self.library, card))
+        } else {
+            self.older_conflict(deck, card)
+        }
+    }
+
+    /// The first card of a line's range that has changed, and is of a younger ident.
+    fn put_card<'b>(&self, deck: Serial, cards: &'b [Card], line: &Touched) -> Option<&'b Card>
+        ensures { option_copied result ≡ find (is_put self.now deck) (drop line.now.from (take line.now.to cards.now)) }
+    {
+        cards.iter().take(line.to).skip(line.from).find(|card| self.since < card.ident
+            && self.is_changed(deck, card))
+    }
+
+    /// The first card of a line's range that has changed.
+    fn changed_card<'b>(&self, deck: Serial, cards: &'b [Card], line: &Touched) -> Option<&'b Card>
+        ensures { option_copied result ≡ find (is_changed self.now deck) (drop line.now.from (take line.now.to cards.now)) }
+    {
+        cards
+            .iter()
+            .take(line.to)
+            .skip(line.from)
+            .find(|card| self.is_changed(deck, card))
+    }
+
+    /// The conflict of a line in its range.
+    fn met_inside(&self, deck: Serial, cards: &[Card], line: &Touched) -> Option<Conflict>
+        ensures { result ≡ met_inside self.now deck cards.now line.now }
+    {
+        if let Some(card) = self.put_card(deck, cards, line) {
+            return Some(self.put_inside(line.deletes, card));
+        }
+        let card = self.changed_card(deck, cards, line)?;
+        Some(self.older_conflict(deck, card))
+    }
+
+    /// The conflict of a line that names a card with a card beside it.
+    fn met_beside(&self, deck: Serial, named: &CardRef, beside: Option<&Card>) -> Option<Conflict>
+        ensures { result ≡ met_beside self.now deck named.now (option_copied beside.entry) }
+    {
+        let card = beside?;
+        if self.is_changed(deck, card) {
+            Some(self.beside_conflict(deck, named, card))
+        } else {
+            None
+        }
+    }
+
+    /// The last line before an index, of the one text or the other.
+    fn line_before<'b>(&self, deck: Serial, cards: &'b [Card], from: usize) -> Option<&'b Card>
+        ensures { option_copied result ≡ line_before self.now deck cards.now from }
+    {
+        front_of(cards, from)
+            .iter()
+            .rev()
+            .find(|card| self.is_line(deck, card))
+    }
+
+    /// The first line from an index on.
+    fn line_behind<'b>(&self, deck: Serial, cards: &'b [Card], to: usize) -> Option<&'b Card>
+        ensures { option_copied result ≡ line_behind self.now deck cards.now to }
+    {
+        cards.iter().skip(to).find(|card| self.is_line(deck, card))
+    }
+
     /// The first conflict of a line at a deck: inside of its change, before it, and after it.
     fn met(&self, deck: Serial, line: &Touched) -> Option<Conflict>
-        requires { self.now.live.now ≡ live_of self.now.library.now }
-        ensures { result ≡ met self.now.library.now self.now.since deck line.now }
+        ensures { result ≡ met self.now deck line.now }
     {
         let cards = self.library.cards_of(deck);
         if let Some(conflict) = self.met_inside(deck, cards, line) {
             return Some(conflict);
         }
-        let before = self.card_before(deck, cards, line.from);
+        let before = self.line_before(deck, cards, line.from);
         if let Some(conflict) = self.met_beside(deck, &line.first, before) {
             return Some(conflict);
         }
-        self.met_beside(deck, &line.last, self.card_behind(deck, cards, line.to))
+        self.met_beside(deck, &line.last, self.line_behind(deck, cards, line.to))
     }
 
     /// The conflict of a `*DELETE` or `*RESTORE` of a range.
     pub fn range_conflict(&self, first: &CardRef, last: &CardRef, deletes: bool) -> Option<Conflict>
-        requires { self.now.live.now ≡ live_of self.now.library.now }
-        ensures { result ≡ range_conflict self.now.library.now self.now.since first.now last.now deletes }
+        ensures { result ≡ range_conflict self.now first.now last.now deletes }
     {
         let from = self.library.card_at(*first)?;
         let to = self.library.card_at(*last)?;
@@ -302,38 +276,36 @@ impl<'a> Seen<'a> {
             first: *first,
             last: *last,
             from: from.index,
-            to: self.end_of(to),
+            to: end_of(self.library, to),
             deletes,
         };
         self.met(from.deck, &line)
     }
 
-    /// The index after a place.
-    fn end_of(&self, place: Place) -> usize
-        ensures { result ≡ end_of self.now.library.now place }
-    {
-        self.library
-            .cards_of(place.deck)
-            .len()
-            .min(place.index.saturating_add(1))
-    }
-
     /// The conflict of an `*INSERT` after a card.
     pub fn insert_conflict(&self, card: &CardRef) -> Option<Conflict>
-        requires { self.now.live.now ≡ live_of self.now.library.now }
-        ensures { result ≡ insert_conflict self.now.library.now self.now.since card.now }
+        ensures { result ≡ insert_conflict self.now card.now }
     {
         let place = self.library.card_at(*card)?;
-        let index = self.end_of(place);
+        let index = end_of(self.library, place);
         self.met(place.deck, &Touched::between(card, index))
     }
 
     /// The conflict of a `*BEFORE` a card.
     pub fn before_conflict(&self, card: &CardRef) -> Option<Conflict>
-        requires { self.now.live.now ≡ live_of self.now.library.now }
-        ensures { result ≡ before_conflict self.now.library.now self.now.since card.now }
+        ensures { result ≡ before_conflict self.now card.now }
     {
         let place = self.library.card_at(*card)?;
         self.met(place.deck, &Touched::between(card, place.index))
     }
+}
+
+/// The index after a place, within its deck.
+fn end_of(library: &Library, place: Place) -> usize
+    ensures { result ≡ end_of library.now place }
+{
+    library
+        .cards_of(place.deck)
+        .len()
+        .min(place.index.saturating_add(1))
 }

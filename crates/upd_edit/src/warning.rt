@@ -83,10 +83,14 @@ pub enum Conflict {
         by: Name,
         since: Name,
     },
-    /// Such an ident yanked the card, its deck, or an ident that switched it.
+    /// The card was active, and is no more, by yanks alone.
     TakenOut {
         card: CardRef,
-        by: Name,
+        since: Name,
+    },
+    /// The card was inactive, and is active, by yanks alone.
+    CameBack {
+        card: CardRef,
         since: Name,
     },
     /// The name was held before by an ident that is purged: which one the author saw isn't known.

@@ -123,12 +123,14 @@ fn conflict_words(alloc: Global, conflict: &Conflict) -> Result<String, AllocErr
                 card, by, since
             )
         }
-        Conflict::TakenOut { card, by, since } => {
-            format!(in alloc;
-                "{} was taken out by {}, which came after {}",
-                card, by, since
-            )
-        }
+        Conflict::TakenOut { card, since } => format!(in alloc;
+            "{} was taken out by yanks after {}",
+            card, since
+        ),
+        Conflict::CameBack { card, since } => format!(in alloc;
+            "{} came back by yanks after {}",
+            card, since
+        ),
         Conflict::CameAgain { since } => {
             format!(in alloc;
                 "{} was purged and came again: what its purge took out isn't seen",

@@ -1,16 +1,19 @@
 //! Warnings of a run that is tried: what it does that its author may not mean.
-ghost use Rattle.std.specs.Prelude.{◌≡◌, ◌+◌, ◌<◌, ◌^◌, ◌++◌, count_by, position, IfOk, IfSome, Ok, OnOk};
+ghost use Rattle.std.specs.Prelude.{◌≡◌, ◌+◌, ◌<◌, ◌^◌, ◌++◌, count_by, position, IfSome, Ok, OnOk};
 ghost use Rattle.std.specs.List.{flat_map};
+ghost use Rattle.std.specs.Result.{result_map_both};
 ghost use Rattle.upd_core.specs.Library.{name_of, ref_of};
 ghost use Rattle.upd_core.specs.Status.{live_of};
 ghost use Rattle.upd_deck.specs.Reading.{reading};
 ghost use Rattle.upd_text.specs.Lines.{is_comment};
 ghost use Rattle.upd_text.specs.Outcome.{GivesAt};
 ghost use Rattle.upd_edit.specs.Found.{conflicts_among, found};
-ghost use Rattle.upd_edit.specs.Warnings.{again_by, again_kind, before_kind, came_again, cards_between, comment_warnings, conflicts, deletion_warnings, empty_kind};
-ghost use Rattle.upd_edit.specs.Warnings.{insert_kind, last_entry, line_warnings, lines_of, off_by, off_kind, range_kind, read_warnings};
-ghost use Rattle.upd_edit.specs.Warnings.{restored_warnings, run_warnings, serial_since, text_kind, warning_list, wide_kind};
+ghost use Rattle.upd_edit.specs.Warnings.{again_by, again_kind, came_again, cards_between, comment_warnings, conflict_kind, conflicts, deletion_warnings};
+ghost use Rattle.upd_edit.specs.Warnings.{empty_kind, last_entry, line_warnings, lines_of, off_by, off_kind, read_warnings, restored_warnings};
+ghost use Rattle.upd_edit.specs.Warnings.{run_warnings, seen_by, text_kind, warning_list, wide_kind};
+ghost use Rattle.upd_edit.specs.YankWarnings.{taking_warnings};
 
+use crate::earlier::with_younger_yanked;
 use crate::meeting::Seen;
 use crate::near_words::near_word;
 use crate::warning::{Conflict, TakingWord, Warning, WarningKind, push};
@@ -18,7 +21,8 @@ use crate::yank_warnings::push_taking;
 use std::alloc::{AllocError, Global};
 use upd_core::ident::name_at;
 use upd_core::{Card, Entry, Library, Live, Name, Place, Serial};
-use upd_deck::{Item, Line, read_run};
+use upd_deck::{Item, Line, NameRange, read_run};
+use upd_text::limits::MAX_INTRODUCED;
 use upd_text::line::{is_comment, is_starred, word};
 use upd_text::{CardRef, Fault, FaultKind};
 
@@ -35,8 +39,8 @@ pub fn warning_list(
 ) -> Result<Vec<Warning>, Fault>
     ensures { GivesAt (λ list. list.items) result (warning_list since run.now library.now) }
 {
-    let seen = serial_since(library, since)?;
-    warnings_since(alloc, library, seen, run)
+    let last = serial_since(library, &since)?;
+    warnings_since(alloc, library, &since, last, run)
 }
 
 /// Those of the warnings that are conflicts, where an ident is given. IdentUnknown, at 0, where no held ident has its name.
@@ -60,14 +64,14 @@ fn keep_conflicts(list: &mut Vec<Warning>)
     list.retain(|warning| warning.kind.is_conflict());
 }
 
-/// The serial of the ident with a name, where one is given.
-fn serial_since(library: &Library, since: Option<Name>) -> Result<Option<Serial>, Fault>
-    ensures { result ≡ serial_since since library.now }
+/// The serial of the youngest ident that the author of a run has seen: where no name is given, of all.
+fn serial_since(library: &Library, since: &Option<Name>) -> Result<Serial, Fault>
+    ensures { result_map_both (λ z. record { library = library.now; since = z }) (λ fault. fault) result ≡ seen_by since.now library.now }
 {
     match since {
-        None => Ok(None),
-        Some(name) => match library.ident_of(&name) {
-            Some(serial) => Ok(Some(serial)),
+        None => Ok(MAX_INTRODUCED as Serial),
+        Some(name) => match library.ident_of(name) {
+            Some(serial) => Ok(serial),
             None => Err(FaultKind::IdentUnknown.without_line()),
         },
     }
@@ -77,41 +81,61 @@ fn serial_since(library: &Library, since: Option<Name>) -> Result<Option<Serial>
 fn warnings_since(
     alloc: Global,
     library: &Library,
-    since: Option<Serial>,
+    since: &Option<Name>,
+    last: Serial,
     run: &[u8],
 ) -> Result<Vec<Warning>, Fault>
-    ensures { GivesAt (λ list. list.items) result (Ok (read_warnings run.now (reading run.now) since library.now)) }
+    ensures { GivesAt (λ list. list.items) result (Ok (read_warnings run.now (reading run.now) since.now (record { library = library.now; since = last }))) }
 {
-    let mut list = Vec::new(alloc);
     match read_run(alloc, run) {
-        Ok(read) => {
-            let live = library.live_yanks()?;
-            push_found(&mut list, library, &live, since, run, read.lines())?;
-            Ok(list)
-        }
+        Ok(read) => found_warnings(alloc, library, since, last, run, read.lines()),
         Err(fault) => match fault.kind {
             FaultKind::NoMemory => Err(fault),
-            _ => Ok(list),
+            _ => Ok(Vec::new(alloc)),
         },
     }
+}
+
+/// The warnings of a run that was read. The only error is NoMemory.
+fn found_warnings(
+    alloc: Global,
+    library: &Library,
+    since: &Option<Name>,
+    last: Serial,
+    run: &[u8],
+    lines: &[Line],
+) -> Result<Vec<Warning>, Fault>
+    ensures { GivesAt (λ list. list.items) result
+        (Ok (run_warnings run.now lines.now since.now (record { library = library.now; since = last }))) }
+{
+    let before = with_younger_yanked(alloc, library, last)?;
+    let live = library.live_yanks()?;
+    let earlier = before.live_yanks()?;
+    let seen = Seen {
+        library,
+        live: &live,
+        earlier: &earlier,
+        since: last,
+    };
+    let mut list = Vec::new(alloc);
+    push_found(&mut list, &seen, since, run, lines)?;
+    Ok(list)
 }
 
 /// Appends the warnings of a run that was read.
 fn push_found(
     list: &mut Vec<Warning>,
-    library: &Library,
-    live: &Live,
-    since: Option<Serial>,
+    seen: &Seen,
+    since: &Option<Name>,
     run: &[u8],
     lines: &[Line],
 ) -> Result<(), AllocError>
-    requires { live.now ≡ live_of library.now }
-    ensures { OnOk result (list.new.items ≡ list.old.items ++ run_warnings run.now lines.now since library.now) }
+    ensures { OnOk result (list.new.items ≡ list.old.items ++ run_warnings run.now lines.now since.now seen.now) }
 {
     push_comments(list, run)?;
     push(list, 1, empty_kind(lines))?;
-    push(list, 1, again_kind(library, since))?;
-    push_lines(list, library, live, since, lines)
+    push(list, 1, again_kind(seen.library, since))?;
+    push_lines(list, seen, lines)
 }
 
 /// Appends the warning of the comments of a run.
@@ -156,11 +180,14 @@ fn empty_kind(lines: &[Line]) -> Option<WarningKind>
     }
 }
 
-/// The warning of an ident whose name was held before by one that is purged.
-fn again_kind(library: &Library, since: Option<Serial>) -> Option<WarningKind>
-    ensures { result ≡ again_kind since library.now }
+/// The warning of a SINCE whose name was held before by an ident that is purged.
+fn again_kind(library: &Library, since: &Option<Name>) -> Option<WarningKind>
+    ensures { result ≡ again_kind since.now library.now }
 {
-    again_by(library, name_of(library, since?))
+    match since {
+        Some(name) => again_by(library, *name),
+        None => None,
+    }
 }
 
 /// The warning of a name that a purged ident has.
@@ -185,48 +212,50 @@ fn came_again(library: &Library, name: &Name) -> bool
 }
 
 /// Appends the warnings of lines.
-fn push_lines(
-    list: &mut Vec<Warning>,
-    library: &Library,
-    live: &Live,
-    since: Option<Serial>,
-    lines: &[Line],
-) -> Result<(), AllocError>
-    requires { live.now ≡ live_of library.now }
-    ensures { OnOk result (list.new.items ≡ list.old.items ++ flat_map (line_warnings library.now since) lines.now) }
+fn push_lines(list: &mut Vec<Warning>, seen: &Seen, lines: &[Line]) -> Result<(), AllocError>
+    ensures { OnOk result (list.new.items ≡ list.old.items ++ flat_map (line_warnings seen.now) lines.now) }
 {
     for line in lines {
-        push_line(list, library, live, since, line)?;
+        push_line(list, seen, line)?;
     }
     Ok(())
 }
 
 /// Appends the warnings of a line.
-fn push_line(
-    list: &mut Vec<Warning>,
-    library: &Library,
-    live: &Live,
-    since: Option<Serial>,
-    line: &Line,
-) -> Result<(), AllocError>
-    requires { live.now ≡ live_of library.now }
-    ensures { OnOk result (list.new.items ≡ list.old.items ++ line_warnings library.now since line.now) }
+fn push_line(list: &mut Vec<Warning>, seen: &Seen, line: &Line) -> Result<(), AllocError>
+    ensures { OnOk result (list.new.items ≡ list.old.items ++ line_warnings seen.now line.now) }
 {
     let number = line.number as usize;
     match &line.item {
         Item::Text => push_text(list, number, line.text),
-        Item::Delete { first, last } => push_deletion(
-            list, library, live, since, number, first, last,
-        ),
-        Item::Restore { first, last } => push_restored(
-            list, library, live, since, number, first, last,
-        ),
-        Item::Insert(card) => push(list, number, insert_kind(library, live, since, card)),
-        Item::Before(card) => push(list, number, before_kind(library, live, since, card)),
-        Item::Yank(names) => push_taking(list, library, live, number, TakingWord::Yank, names),
-        Item::Purge(names) => push_taking(list, library, live, number, TakingWord::Purge, names),
+        Item::Delete { first, last } => push_deletion(list, seen, number, first, last),
+        Item::Restore { first, last } => push_restored(list, seen, number, first, last),
+        Item::Insert(card) => push(list, number, conflict_kind(seen.insert_conflict(card))),
+        Item::Before(card) => push(list, number, conflict_kind(seen.before_conflict(card))),
+        Item::Yank(names) => push_taken(list, seen, number, TakingWord::Yank, names),
+        Item::Purge(names) => push_taken(list, seen, number, TakingWord::Purge, names),
         _ => Ok(()),
     }
+}
+
+/// The warning of a conflict.
+fn conflict_kind(met: Option<Conflict>) -> Option<WarningKind>
+    ensures { result ≡ conflict_kind met }
+{
+    Some(WarningKind::Conflict(met?))
+}
+
+/// Appends the warnings of a yank or purge of names.
+fn push_taken(
+    list: &mut Vec<Warning>,
+    seen: &Seen,
+    number: usize,
+    word: TakingWord,
+    names: &[NameRange],
+) -> Result<(), AllocError>
+    ensures { OnOk result (list.new.items ≡ list.old.items ++ taking_warnings number word seen.now.library names.now) }
+{
+    push_taking(list, seen.library, seen.live, number, word, names)
 }
 
 /// Appends the warning of a text whose word may be meant for that of a directive.
@@ -243,47 +272,35 @@ fn push_text(list: &mut Vec<Warning>, number: usize, line: &[u8]) -> Result<(), 
 /// Appends the warnings of a range that is deleted.
 fn push_deletion(
     list: &mut Vec<Warning>,
-    library: &Library,
-    live: &Live,
-    since: Option<Serial>,
+    seen: &Seen,
     number: usize,
     first: &CardRef,
     last: &CardRef,
 ) -> Result<(), AllocError>
-    requires { live.now ≡ live_of library.now }
-    ensures { OnOk result (list.new.items ≡ list.old.items ++ deletion_warnings library.now since number first.now last.now) }
+    ensures { OnOk result (list.new.items ≡ list.old.items ++ deletion_warnings seen.now number first.now last.now) }
 {
-    push(list, number, off_kind(library, live, first))?;
+    push(list, number, off_kind(seen.library, seen.live, first))?;
     if first != last {
-        push(list, number, off_kind(library, live, last))?;
+        push(list, number, off_kind(seen.library, seen.live, last))?;
     }
-    push(list, number, wide_kind(library, first, last))?;
-    push(
-        list,
-        number,
-        range_kind(library, live, since, first, last, true),
-    )
+    push(list, number, wide_kind(seen.library, first, last))?;
+    let met = seen.range_conflict(first, last, true);
+    push(list, number, conflict_kind(met))
 }
 
 /// Appends the warnings of a range that is restored.
 fn push_restored(
     list: &mut Vec<Warning>,
-    library: &Library,
-    live: &Live,
-    since: Option<Serial>,
+    seen: &Seen,
     number: usize,
     first: &CardRef,
     last: &CardRef,
 ) -> Result<(), AllocError>
-    requires { live.now ≡ live_of library.now }
-    ensures { OnOk result (list.new.items ≡ list.old.items ++ restored_warnings library.now since number first.now last.now) }
+    ensures { OnOk result (list.new.items ≡ list.old.items ++ restored_warnings seen.now number first.now last.now) }
 {
-    push(list, number, wide_kind(library, first, last))?;
-    push(
-        list,
-        number,
-        range_kind(library, live, since, first, last, false),
-    )
+    push(list, number, wide_kind(seen.library, first, last))?;
+    let met = seen.range_conflict(first, last, false);
+    push(list, number, conflict_kind(met))
 }
 
 /// The warning of a card that an ident has switched off.
@@ -362,60 +379,4 @@ fn cards_between(library: &Library, from: Option<Place>, to: Option<Place>) -> u
             .saturating_sub(from.index),
         _ => 0,
     }
-}
-
-/// The conflict of a range, where an ident is given.
-fn range_kind(
-    library: &Library,
-    live: &Live,
-    since: Option<Serial>,
-    first: &CardRef,
-    last: &CardRef,
-    deletes: bool,
-) -> Option<WarningKind>
-    requires { live.now ≡ live_of library.now }
-    ensures { result ≡ range_kind library.now since first.now last.now deletes }
-{
-    let seen = Seen {
-        library,
-        live,
-        since: since?,
-    };
-    Some(WarningKind::Conflict(seen.range_conflict(first, last, deletes)?))
-}
-
-/// The conflict of an `*INSERT`, where an ident is given.
-fn insert_kind(
-    library: &Library,
-    live: &Live,
-    since: Option<Serial>,
-    card: &CardRef,
-) -> Option<WarningKind>
-    requires { live.now ≡ live_of library.now }
-    ensures { result ≡ insert_kind library.now since card.now }
-{
-    let seen = Seen {
-        library,
-        live,
-        since: since?,
-    };
-    Some(WarningKind::Conflict(seen.insert_conflict(card)?))
-}
-
-/// The conflict of a `*BEFORE`, where an ident is given.
-fn before_kind(
-    library: &Library,
-    live: &Live,
-    since: Option<Serial>,
-    card: &CardRef,
-) -> Option<WarningKind>
-    requires { live.now ≡ live_of library.now }
-    ensures { result ≡ before_kind library.now since card.now }
-{
-    let seen = Seen {
-        library,
-        live,
-        since: since?,
-    };
-    Some(WarningKind::Conflict(seen.before_conflict(card)?))
 }

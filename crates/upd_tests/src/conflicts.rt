@@ -6,10 +6,11 @@ use upd_edit::{warning_list, write_warnings};
 use upd_testkit::applying::{after, name};
 use upd_testkit::check::same_text;
 
-/// Deck A of ten lines, A.2 to A.11, into which X has put one behind the eighth; W has switched A.7 off.
+/// Deck A of ten lines, A.2 to A.11, into which X has put one behind the eighth. W has switched A.7 off; V yanks W, and U
+/// yanks V.
 const BASE: &[&str] = &[
     "*DECK A\nL1\nL2\nL3\nL4\nL5\nL6\nL7\nL8\nL9\nL10\n",
-    "*IDENT W\n*DELETE A.7\n",
+    "*IDENT W\n*DELETE A.7\n*IDENT V\n*YANK W\n*IDENT U\n*YANK V\n",
     "*IDENT X\n*INSERT A.9\nX1\n",
 ];
 
@@ -50,23 +51,39 @@ upd: 6: A.3 was switched by P, which came after X\nupd: 8: A.6 was switched by P
     (
         "*IDENT Y\n*YANK X\n",
         "*IDENT M\n*DELETE X.1\nX1 CHANGED\n",
-        "upd: 2: X.1 was taken out by Y, which came after X\n",
+        "upd: 2: X.1 was taken out by yanks after X\n",
     ),
     (
         "*IDENT Y\n*SELYANK A.X\n",
         "*IDENT M\n*INSERT X.1\nMINE\n",
-        "upd: 2: X.1 was taken out by Y, which came after X\n",
+        "upd: 2: X.1 was taken out by yanks after X\n",
     ),
     (
         "*IDENT Y\n*YANKDECK A\n",
         "*IDENT M\n*DELETE A.4\nMINE\n",
-        "upd: 2: A.4 was taken out by Y, which came after X\n",
+        "upd: 2: A.4 was taken out by yanks after X\n",
     ),
     // They yank the set that switched a line off, which is active again: that line is one beside the others.
     (
         "*IDENT Y\n*YANK W\n",
         "*IDENT M\n*DELETE A.6\nMINE\n*RESTORE A.7\n*DELETE A.5\n",
-        "upd: 2: A.7 was switched by Y, which came after X\nupd: 4: A.7 was switched by Y, which came after X\n",
+        "upd: 2: A.7 came back by yanks after X\nupd: 4: A.7 came back by yanks after X\n",
+    ),
+    // So too where they yank the yank of its yank, or switch that off, or yank a yank of their own.
+    (
+        "*IDENT P\n*YANK U\n",
+        "*IDENT M\n*INSERT A.6\nMINE\n",
+        "upd: 2: A.7 came back by yanks after X\n",
+    ),
+    (
+        "*IDENT P\n*DELETE U.1\n",
+        "*IDENT M\n*BEFORE A.8\nMINE\n",
+        "upd: 2: A.7 came back by yanks after X\n",
+    ),
+    (
+        "*IDENT P\n*YANK X\n*IDENT Q\n*YANK P\n*IDENT R\n*YANK Q\n",
+        "*IDENT M\n*DELETE X.1\nMINE\n",
+        "upd: 2: X.1 was taken out by yanks after X\n",
     ),
     // The line stands where the first of theirs was put.
     (
@@ -86,7 +103,7 @@ upd: 6: A.3 was switched by P, which came after X\nupd: 8: A.6 was switched by P
         "*IDENT M\n*DELETE A.6\nMINE\n*INSERT A.8\nMINE\n*BEFORE A.3\nMINE\n*DELETE X.1,A.10\n*RESTORE A.7\n*DELETE A.4,Q.1\n",
         "upd: 10: A.4 is off already, by P\n",
     ),
-    // What they did is undone, by a yank or by a set that restores nothing that was off.
+    // What they did is undone, by a yank or by a set that restores, or it changes no text.
     (
         "*IDENT P\n*DELETE A.4\n*IDENT Q\n*YANK P\n",
         "*IDENT M\n*DELETE A.3\nMINE\n",
@@ -95,6 +112,16 @@ upd: 6: A.3 was switched by P, which came after X\nupd: 8: A.6 was switched by P
     (
         "*IDENT P\n*INSERT A.4\nTHEIRS\n*IDENT Q\n*DELETE P.1\n",
         "*IDENT M\n*DELETE A.3,A.6\nMINE\n",
+        "",
+    ),
+    (
+        "*IDENT P\n*DELETE A.4\n*IDENT Q\n*RESTORE A.4\n*IDENT R\n*YANK X\n*IDENT S\n*YANK R\n",
+        "*IDENT M\n*DELETE A.3,A.5\nMINE\n*DELETE X.1\nMINE\n",
+        "",
+    ),
+    (
+        "*IDENT P\n*YANK U\n*IDENT Q\n*DELETE A.7\n",
+        "*IDENT M\n*DELETE A.6,A.8\nMINE\n",
         "",
     ),
 ];

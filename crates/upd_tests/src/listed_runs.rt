@@ -31,7 +31,10 @@ fn a_run_with_a_reply_that_is_not_json_is_listed(rt: HostRuntime) -> Result<(), 
 
 /// The first lines of runs, and what is said of them.
 const MESSAGES: [(&[u8], &str); 5] = [
-    (b"*/ mend the tables\n*IDENT X\n", "SITEA 9 normal refused # mend the tables\n"),
+    (
+        b"*/ mend the tables\n*IDENT X\n",
+        "SITEA 9 normal refused # mend the tables\n",
+    ),
     (b"*/no blank", "SITEA 9 normal refused #no blank\n"),
     (b"*/\n*/ second\n", "SITEA 9 normal refused #\n"),
     (b"*/ a\tb\x1b\r\n", "SITEA 9 normal refused # a?b??\n"),
