@@ -6,14 +6,12 @@ pub use Rattle.std.specs.Borrow.{Bor}
 pub use Rattle.std.specs.Prelude.{codes}
 pub use Rattle.upd_apply.proofs.Common.{Result}
 pub use Rattle.upd_compile.proofs.Common.{Global, Vec, filter_map, nat_lt}
-pub use Rattle.upd_core.proofs.ApartLemmas.{all_at}
-pub use Rattle.upd_core.proofs.Common.{[], ℕ, ◌++◌, ◌+◌, ◌-◌, ◌<◌, ◌==◌, ◌∙◌, ◌∷◌, ◌≡◌, ◌≤◌, AllByRecursion, Bool, CardView, Contains, Decides-eqb, DeckView}
-pub use Rattle.upd_core.proofs.Common.{LibraryView, List, None, Option, Some, ap, append_assoc, arith, cond, drop, false, filter, flat_map, get_or}
-pub use Rattle.upd_core.proofs.Common.{held_named, index_from, is_active, is_deck, is_some, length, length-map, list_any, live_targets, map, nat_tests, not}
-pub use Rattle.upd_core.proofs.Common.{option_map, option_map_or, ref_of, refl, rules, slice_get, subst, suc, sym, take, true, zero}
+pub use Rattle.upd_core.proofs.Common.{[], ℕ, ◌++◌, ◌+◌, ◌-◌, ◌<◌, ◌==◌, ◌∙◌, ◌∷◌, ◌≡◌, ◌≤◌, AllByRecursion, Bool, CardView, Decides-eqb, DeckView}
+pub use Rattle.upd_core.proofs.Common.{LibraryView, List, None, Option, Some, ap, append_assoc, arith, drop, false, filter, flat_map, get_or}
+pub use Rattle.upd_core.proofs.Common.{index_from, is_active, is_deck, is_some, length, length-map, list_any, live_targets, map, nat_tests, not}
+pub use Rattle.upd_core.proofs.Common.{option_map_or, refl, rules, subst, suc, sym, take, true, zero}
 pub use Rattle.upd_core.specs.Library.{deck_of}
 pub use Rattle.upd_core.specs.Status.{LiveView}
-pub use Rattle.upd_core.specs.declared.ident.Ident.{Ident}
 pub use Rattle.upd_core.specs.declared.target.Target.{Target}
 pub use Rattle.upd_correct.specs.Checked.{AreDecksFrom, AreLeft, Corrects, Empty, HasTexts, IsChecked, IsDeckLeft, LeadsCards, New, Old, held_serials, new_decks}
 pub use Rattle.upd_correct.specs.Correcting.{CorrectsSince, CorrectsTo}
@@ -26,10 +24,9 @@ pub use Rattle.upd_correct.specs.ReadDecks.{AreReadFrom}
 pub use Rattle.upd_correct.specs.Refusals.{head_read, lines_refusals, refusals_at, refusals_of}
 pub use Rattle.upd_correct.specs.declared.refusal.CorrectError.{CorrectError}
 pub use Rattle.upd_correct.specs.declared.refusal.Refusal.{Refusal}
-pub use Rattle.upd_deck.proofs.Common.{AllZip, LineView, bytes_eq, bytes_eq-Decides, is_allowed, is_feed, is_name, list_all, reading, take_all, take_more}
+pub use Rattle.upd_deck.proofs.Common.{AllZip, LineView, bytes_eq, is_allowed, is_feed, reading, take_all, take_more}
 pub use Rattle.upd_diff.proofs.Common.{IsTrue, append-nil, inr, map-append}
-pub use Rattle.upd_laws.proofs.Common.{Err, Ok, Reached, all_back, all_front, cards_of, next_age, yank_name}
+pub use Rattle.upd_laws.proofs.Common.{Err, Ok, Reached, cards_of, next_age}
 pub use Rattle.upd_laws.proofs.SoundListLemmas.{all_append, all_weaker, is_same_number}
-pub use Rattle.upd_text.specs.Names.{IsReference, card_text}
 pub use Rattle.upd_text.specs.Units.{Bytes}
 pub use Rattle.upd_text.specs.declared.limits.TheConstants.{MAX_CARDS}

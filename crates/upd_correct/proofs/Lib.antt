@@ -8,6 +8,4 @@ pub mod LeftLemmas
 pub mod TextLemmas
 pub mod CheckedLemmas
 pub mod Common
-pub mod ListedLemmas
-pub mod TellLemmas
 mod CountLemmas

@@ -1,12 +1,6 @@
 -- Lists and their parts.
 use Rattle.upd_correct.proofs.Common.{◌≡◌, ℕ, zero, suc, ◌+◌, ◌-◌, ◌<◌, List, [], ◌∷◌, ◌++◌, map, length, take, drop, get_or, refl, sym, ap, ◌∙◌, arith}
-use Rattle.upd_correct.proofs.Common.{append_assoc, length-drop, map-append, take_all, take_more, AllByRecursion, Contains}
-use Rattle.upd_core.proofs.ApartLemmas.{all_by_index, at_contained}
-
-pub all_contained : {A : Type 0} (xs : List A) → AllByRecursion (Contains xs) xs
-all_contained xs = all_by_index xs (λ k x e. at_contained xs k x e)
-
--- ---- one more of a list
+use Rattle.upd_correct.proofs.Common.{append_assoc, length-drop, map-append, take_all, take_more}
 
 pub mapped_more : {X A : Type 0} (f : X → A) (front : List A) (xs : List X) (i : ℕ) (d : X) → i < length xs
     → (front ++ map f (take i xs)) ++ f (get_or xs i d) ∷ [] ≡ front ++ map f (take (i + 1) xs)

@@ -1,5 +1,5 @@
 -- A deck that is known by its listing alone.
-use Rattle.std.specs.Prelude.{◌≡◌, ℕ, ◌+◌, length, nat_lt, Bool, true, false, not, ◌&&◌, if◌then◌else◌}
+use Rattle.std.specs.Prelude.{ℕ, ◌+◌, length, nat_lt, Bool, true, false, not, ◌&&◌, if◌then◌else◌}
 use Rattle.std.specs.Prelude.{List, [], ◌∷◌, codes, map, Option, Some, None, is_some, unwrap_or}
 use Rattle.std.specs.List.{after_first, before_first, filter_map, list_any}
 use Rattle.std.specs.Option.{option_and_then, option_map, option_map_or}
@@ -12,8 +12,7 @@ use Rattle.upd_text.specs.Units.{Bytes}
 use Rattle.upd_core.specs.declared.ident.Kind.TheVariants.{Deck, Set}
 use Rattle.upd_core.specs.Edits.{entered, introduced, new_card, with_deck}
 use Rattle.upd_core.specs.First.{index_from}
-use Rattle.upd_core.specs.Library.{CardView, LibraryView, cards_of, empty, held_named, ident_of, ref_of}
-use Rattle.upd_core.specs.Status.{is_active, live_targets}
+use Rattle.upd_core.specs.Library.{CardView, LibraryView, empty, held_named, ident_of}
 use Rattle.upd_core.specs.Serials.{Serial}
 use Rattle.upd_deck.specs.Reading.{is_feed}
 
@@ -138,15 +137,3 @@ cards_listed (head ∷ lines) = filter_map listed_card lines
 -- the library that a listing stands for
 abbrev pub library_of : List Bytes → LibraryView
 library_of lines = library_listed (name_listed lines) (cards_listed lines)
-
--- ---- what a listing tells
-
--- a card of a deck as the deck's listing tells it
-abbrev pub as_listed : LibraryView → Serial → CardView → ListedView
-as_listed l deck c = record { active = is_active (live_targets l) deck c; card = ref_of l.idents c; text = c.text }
-
--- The lines of a listing are read, and tell the name of a deck and its cards: of each whether it is active, its reference and its text.
-pub record TellDeck (l : LibraryView) (name : Bytes) (deck : Serial) (lines : List Bytes) : Type 0 where
-  pub read : bad_line lines ≡ None
-  pub named : name_listed lines ≡ name
-  pub cards : cards_listed lines ≡ map (as_listed l deck) (cards_of deck l)

@@ -21,7 +21,6 @@ mod edited_lines;
 pub mod in_the_way;
 mod listed_card;
 pub mod listed_deck;
-pub mod listed_laws;
 mod matching;
 mod older_cards;
 mod other_deck;
