@@ -89,9 +89,7 @@ fn no_library_is_made_over_a_letter(rt: HostRuntime) -> Result<(), Fail> {
     let file = library(&rt, "letter")?;
     fs::write(&rt, file.as_str(), b"x")?;
     take_all(&rt, &file, REFUSED)?;
-    holds(
-        "the letter",
-        fs::read(&rt, file.as_str())?.as_slice() == b"x",
-    )?;
+    let kept = fs::read(&rt, file.as_str())?;
+    holds("the letter", kept.as_slice() == b"x".as_slice())?;
     remove(&rt, &file)
 }

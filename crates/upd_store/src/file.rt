@@ -169,7 +169,7 @@ fn begins_as_text(rt: &HostRuntime, path: &str) -> io::Result<bool> {
 }
 
 /// Whether SQLite reads a path as something else than a file's name.
-fn is_no_path(path: &str) -> bool {
+pub(crate) fn is_no_path(path: &str) -> bool {
     path == ":memory:" || path.starts_with("file:")
 }
 
