@@ -6,9 +6,9 @@
 # Under each: bring.sh and tree.sh bring in files with hostile names and bytes and write them back, byte for byte. Two sites put their changes into one
 # library by put.sh, on other lines and on the same one; one adds a file, removes one, changes 2,500 lines, and is killed while it sends. edit.sh edits a
 # deck, a line that another site has changed, and files of a tree. An edit of several runs meets what came before its first run, between two of them and
-# after one that got no answer; and idents are purged, or come again, that an edit has seen. site.sh sends a run, and once finds its folder in use. What
-# comes out must be the tree that was put in, and LIST the same under all. Exit status: 0 all is as it should be, 1 something is not, 3 the executable is not
-# there.
+# after one that got no answer; and idents are purged, or come again, that an edit has seen. Decks go out of use and
+# are purged. site.sh sends a run, and once finds its folder in use. What comes out must be the tree that was put in, and LIST the same under all. Exit
+# status: 0 all is as it should be, 1 something is not, 3 the executable is not there.
 set -u
 export LC_ALL=C
 root=$(cd "$(dirname -- "$0")/.." && pwd)
@@ -233,7 +233,7 @@ try_purges() {
     oslo '*PURGE Y\n'
     sed s/TWO/two/ parts/c.txt >new && cat new >parts/c.txt
     expect 1 answering 'yes\n' script put p.db PARIS LIST.P parts
-    must [ "$(grep -c 'Y was purged' err)" -eq 2 ]
+    must [ "$(grep -c 'Y was purged' err)" -eq 1 ]
     oslo '*IDENT Y\n*INSERT A.2\nnew\n'
     expect 1 answering 'yes\n' script put p.db PARIS LIST.P parts
     sed 's/^\(since [^ ]*\) .*/\1/' LIST.P >new && cat new >LIST.P
@@ -243,9 +243,54 @@ try_purges() {
     must grep -q 'PARIS3.* was purged' err
 }
 
+# What only LIST has, as line ends and rights; decks and cards that others change or take away; and a LIST that is older than its tree.
+try_decks() {
+    rm -rf p.db p.db-wal parts LIST.P now && oslo_number=0
+    mkdir small && printf 'a\r\nb  \nc' >small/a.c && for name in b c d e; do printf '%s\nTWO\n' "$name" >"small/$name.c"; done
+    expect 0 "$upd" init p.db
+    find small/. -type f | sort >names
+    expect 0 script bring --c --list LIST.P p.db LYON 1 <names && cp out spool
+    expect 1 answering 'small//a.c\n' script bring --c --list LIST.P p.db LYON 50
+    expect 0 "$upd" spool p.db <spool
+    expect 0 script tree --list LIST.P p.db parts
+    printf 'a\nb\nc\n' >parts/small/a.c && chmod 755 parts/small/e.c && cp -Rp parts changed && cp LIST.P LIST.OLD
+    expect 0 script put --yes p.db LYON LIST.P parts
+    must diff -r changed parts
+    expect 0 script tree p.db now <LIST.P
+    must diff -r changed now
+    must [ -x now/small/e.c ]
+    oslo '*IDENT Y\n*YANKDECK B\n*INSERT D.2\nby OSLO\n*INSERT E.2\nby OSLO\n'
+    oslo '*PURDECK C\n'
+    rm parts/small/d.c && echo more >>parts/small/a.c
+    expect 1 script put --gone --yes p.db LYON LIST.P parts
+    must grep -q 'd.c is gone, but' err
+    must cmp small/b.c parts/small/b.c
+    must cmp small/c.c parts/small/c.c
+    must [ "$(sed -n 2p parts/small/e.c)" = 'by OSLO' ]
+    must [ "$("$upd" text p.db A | tail -n 1)" = more ]
+    rm parts/small/[bc].c
+    expect 1 script put --gone --yes p.db LYON LIST.P parts
+    must [ "$(grep '^deck' LIST.P | tr '\n' ' ')" = 'deck A deck D deck E ' ]
+    echo again >>parts/small/a.c
+    expect 1 script put --yes p.db LYON LIST.OLD parts </dev/null
+    must grep -q ' came after E$' err
+    must [ "$("$upd" text p.db A | tail -n 1)" = more ]
+    for set in X W; do
+        oslo "*IDENT Z\\n*INSERT A.2\\nby Z\\n*IDENT $set\\n*INSERT E.3\\nby $set\\n"
+        expect 0 answering 'yes\n' script put p.db LYON LIST.P parts
+        must grep -q 'by Z' parts/small/a.c
+        oslo '*PURGE Z\n'
+        [ "$set" = X ] || echo last >>parts/small/a.c
+        echo last >>parts/small/e.c
+        expect "$([ "$set" = X ] && echo 0 || echo 1)" answering 'yes\n' script put p.db LYON LIST.P parts
+        must [ "$("$upd" text p.db A | grep -c 'by Z')" -eq 0 ]
+    done
+    must grep -q 'cards of its deck A were purged' err
+    must [ "$("$upd" text p.db E | grep -c last)" -eq 1 ]
+}
+
 try_site() {
-    mkdir -p site/outbox && cp run site/outbox/a.quick
-    sed -i.old 's/DECK A/DECK S/' site/outbox/a.quick && rm site/outbox/a.quick.old
+    mkdir -p site/outbox && printf '*DECK S\nONE\n' >site/outbox/a.quick
     expect 0 script site site BERN l.db
     must grep -q '"state":"accepted"' site/replies/1.json
     exec 8>site/lock && flock -n 8
@@ -267,6 +312,7 @@ try_tools() {
     try_edits
     try_parts
     try_purges
+    try_decks
     try_site
     PATH=$old_path
     [ -e "$work/LIST" ] || cp LIST.LYON "$work/LIST"

@@ -87,10 +87,15 @@ if [ -n "$list" ] && [ -e "$list" ]; then cat "$list"; fi >"$work/old" || exit 3
     grep -v ' purged$' "$work/idents" | cut -d ' ' -f 2
     sed -n -e 's/^deck //p' -e 's/^part \([^ ]*\) .*/\1/p' "$work/old"
 } >"$taken"
+# Paths in one form: `find .` names a/b.c as ./a/b.c.
+one_form() {
+    sed -e 's|/\(\./\)*|/|g' -e 's|//*|/|g' -e 's|^\./||'
+}
+
 awk '
     $1 == "deck" { if (path != "") print path; path = "" }
     $1 == "path" { path = path $2 }
-    END { if (path != "") print path }' "$work/old" >"$work/paths" || exit 3
+    END { if (path != "") print path }' "$work/old" | one_form >"$work/paths" || exit 3
 
 # The name, or the name with a mark and a number, from a number on, that nothing has. The name is then in use.
 new_name() {
@@ -126,15 +131,13 @@ add_run() {
     number=$((number + 1))
 }
 
-# The path of a file, without what leads out of a folder.
+# The path of a file, without what leads out of a folder, in one form.
 inner_path() {
-    case /$1 in
-    */../*)
-        outer=/$1
-        printf '%s\n' "${outer##*/../}"
-        ;;
+    outer=/$1
+    case $outer in
+    */../*) printf '%s\n' "${outer##*/../}" ;;
     *) printf '%s\n' "$1" ;;
-    esac
+    esac | one_form
 }
 
 # A path as LIST has it: a byte that isn't plain is \0 and three octal digits.
@@ -152,7 +155,7 @@ encoded() {
 
 # The lines of a deck in LIST, for a file with an encoded path, before its parts and notes. SINCE gets its ident at the end.
 list_deck() {
-    printf 'deck %s\nsince\n' "$1" && printf '%s\n' "$3" | fold -b -w 75 | sed 's/^/path /' || return
+    printf 'deck %s\nsince\nsum %s %s\n' "$1" "$(cksum <"$work/cards")" "$(cksum <"$2")" && printf '%s\n' "$3" | fold -b -w 75 | sed 's/^/path /' || return
     [ -z "$c" ] || echo 'fit c'
     ls -lLd -- "$2" | awk '
         function digit(bits) { return (bits ~ /^r/ ? 4 : 0) + (bits ~ /^.w/ ? 2 : 0) + (bits ~ /[xst]$/ ? 1 : 0) }

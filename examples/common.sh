@@ -52,7 +52,10 @@ check_words() {
     full | quick | normal) ;;
     *) usage ;;
     esac
-    is_plain || usage
+    is_plain || {
+        say "a message has at most 77 bytes of printable ASCII"
+        exit 2
+    }
 }
 
 is_plain() {

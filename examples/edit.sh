@@ -235,7 +235,7 @@ list_of() {
     done
 }
 
-# Edits files of the tree, and sends them by put.sh. Their lines in LIST are those after that, but SINCE is that of LIST's tree.
+# Edits files of the tree, and sends them by put.sh. Their lines in LIST are those after that, but SINCE and sum are those of LIST's tree.
 edit_files() {
     put=$(script put) && tree=$(script tree) && list_of "$@" >"$work/list" || exit $?
     export UPD="$upd"
@@ -256,9 +256,15 @@ edit_files() {
     done
     sent=1
     awk -v new="$work/list" '
-        BEGIN { while ((getline line < new) > 0) { split(line, word, " "); if (word[1] == "deck") deck = word[2]; if (word[1] != "since") lines[deck] = lines[deck] line "\n" } }
+        BEGIN {
+            while ((getline line < new) > 0) {
+                split(line, word, " ")
+                if (word[1] == "deck") deck = word[2]
+                if (word[1] !~ /^(since|sum)$/) lines[deck] = lines[deck] line "\n"
+            }
+        }
         $1 == "deck" { on = $2 in lines; if (on) printf "%s", lines[$2] }
-        !on || $1 == "since"' "$list" >"$list.new" && mv "$list.new" "$list" || exit 3
+        !on || $1 == "since" || $1 == "sum"' "$list" >"$list.new" && mv "$list.new" "$list" || exit 3
     exit 0
 }
 

@@ -5,17 +5,19 @@
 #
 # LIST and FOLDER are as bring.sh or `tree.sh --list` made them. Each file of LIST that is not as the library has it is corrected
 # in its deck, against the deck as it was when LIST was noted: so what others have sent meanwhile stays. It then comes into FOLDER,
-# too. Only a purge isn't seen: what a file that you changed still has of the purged cards is put in again; and after a purge of the
-# ident that LIST notes, a changed file has to be made again, by `tree.sh --list`, and your changes in it. So let FOLDER be a tree of
-# yours, or a release whose decks nobody else corrects. NEW are files that become decks, by bring.sh: their paths in FOLDER. FILE is
-# the library; no command may have it open. The runs are the next ones of SITE, and their sets are named by SITE and the run's
-# number, as LYON7. A file that needs more lines than a run has is corrected by several. UPD is the program (`upd` unless it is set).
+# too. After a purge of cards that the file was made from, or of the ident that LIST notes, a file that you changed has to be made
+# again, by `tree.sh --list`, and your changes in it; and one whose deck is purged or out of use stays as it is. What no card has, as
+# blanks at the end of lines, line ends and rights, goes into LIST only. So let FOLDER be a tree of yours, or a release whose decks
+# nobody else corrects. NEW are files that become decks, by bring.sh: their paths in FOLDER. FILE is the library; no command may have
+# it open. The runs are the next ones of SITE, and their sets are named by SITE and the run's number, as LYON7. A file that needs more
+# lines than a run has is corrected by several. UPD is the program (`upd` unless it is set).
 #
 # What each run corrects is shown before you are asked. A run is sent by `upd run-at`: where others have changed the same lines
 # meanwhile it is not stored, and you are asked again; of several runs for a file before the first of them is sent.
 #
 #     --c           all files are made to fit as by bring.sh, also where LIST doesn't say so yet
-#     --gone        takes the decks out of use whose files are gone from FOLDER, and removes them from LIST
+#     --gone        takes the decks out of use whose files are gone from FOLDER, and removes them from LIST, but for what others
+#                   have changed meanwhile
 #     --yes         sends the runs without asking, but where others have changed the same lines
 #     --mode MODE   the mode of the runs: full, normal, or quick, which it is else
 #     -m MESSAGE    what the runs are for, at most 77 bytes: their first line, as a comment. Asked for at a terminal.
@@ -26,8 +28,9 @@
 #
 # Exit status:
 #   0  all runs are accepted, or nothing was changed
-#   1  a run was refused, or not sent as you said no or an ident was purged, or a file can't be read or a line of it be a card: each
-#      is named. The others that were accepted are in the library and in LIST, or, of a file that needs several, in LIST.put
+#   1  a run was refused, or not sent as you said no or of a purge, or a file can't be read or a line of it be a card, or a file has
+#      to stay as it is: each is named. What was accepted is in the library and in LIST, or, of a file that needs several runs, in
+#      LIST.put
 #   2  the words can't be read
 #   3  something else failed, as a command or the disk
 set -u
@@ -78,13 +81,14 @@ trap 'rm -rf "$work"' EXIT
 trap 'exit 3' HUP INT TERM
 export UPD="$upd"
 
-# The decks of LIST: name, path, SINCE and its serial, and how the file was made to fit, one a line.
+# The decks of LIST: name, path, SINCE and its serial, the sums of lines and file, and how the file was made to fit, one a line.
 list_decks() {
     awk '
-        function end() { if (deck != "") print deck, path, (since == "" ? "-" : since), (serial == "" ? "-" : serial), fit }
-        $1 == "deck" { end(); deck = $2; path = since = serial = fit = "" }
+        function end() { if (deck != "") print deck, path, (since == "" ? "-" : since), (serial == "" ? "-" : serial), (sum == "" ? "- -" : sum), fit }
+        $1 == "deck" { end(); deck = $2; path = since = serial = sum = fit = "" }
         $1 == "path" { path = path $2 }
         $1 == "since" { since = $2; serial = $3 }
+        $1 == "sum" { sum = $2 ":" $3 " " $4 ":" $5 }
         $1 == "fit" { fit = "--c" }
         END { end() }' "$list"
 }
@@ -110,8 +114,29 @@ note_since() {
         on && $1 == "deck" { print "since " ENVIRON["since"] }' "$list" >"$list.new" && mv "$list.new" "$list" || exit 3
 }
 
+# Notes SINCE and sum for the decks of work/same: those of the tree that is written from the library.
+note_same() {
+    awk -v decks="$work/same" -v now="$work/now" '
+        BEGIN {
+            while ((getline deck < decks) > 0) listed[deck]
+            while ((getline line < now) > 0) {
+                split(line, word, " ")
+                if (word[1] == "deck") deck = word[2]
+                if (word[1] ~ /^(since|sum)$/) noted[deck] = noted[deck] line "\n"
+            }
+        }
+        $1 == "deck" { on = $2 in listed }
+        !(on && $1 ~ /^(since|sum)$/)
+        on && $1 == "deck" { printf "%s", noted[$2] }' "$list" >"$list.new" && mv "$list.new" "$list" || exit 3
+}
+
+# What LIST notes as the sum of lines.
+sum_of() {
+    cksum | tr ' ' :
+}
+
 # The lines of a deck in LIST once its cards are those of a file: SECTION LISTING HUNKS NOTES, where HUNKS are the differences of the
-# active cards and the file's. A new set gets numbers after all others. Notes of cards that are off stay.
+# active cards and the file's. A new set gets numbers after all others. Notes of cards that the file doesn't have stay.
 new_section() {
     awk -v deck="$1" -v since="$2" -v sets="$3" -v mode="$4" '
         function put_note(kind, item) {
@@ -152,15 +177,15 @@ new_section() {
                     for (i = at; i <= cards; i++) if (owner[i] == owner[at] && number_of(i) > most) most = number_of(i)
                     head[++heads] = "part " owner[at] " " start[owner[at]]
                 }
-            for (at = 1; at <= actives; at++) is_active[number_of(active[at])]
+            for (at in place) is_placed[number_of(active[place[at]])]
             print head[1]; print "since " since; if (mode != "644") print "mode " mode
             for (i = 2; i <= heads; i++) print head[i]
             for (i = 1; i <= olds; i++) {
                 size = split(old[i], item, " ")
                 for (n = 2; n <= size; n++) {
                     split(item[n], a, ":")
-                    if (item[1] != "cut") { if (!(a[1] in is_active)) put_note(item[1], item[n]); continue }
-                    for (k = a[1]; k < a[1] + a[2] - 1; k++) if (!(k in is_active)) put_note("join", k ":" k + 1)
+                    if (item[1] != "cut") { if (!(a[1] in is_placed)) put_note(item[1], item[n]); continue }
+                    for (k = a[1]; k < a[1] + a[2] - 1; k++) if (!(k in is_placed)) put_note("join", k ":" k + 1)
                 }
             }
             for (i = 1; i <= news; i++) {
@@ -218,13 +243,17 @@ note_run() {
         diff -U 0 "$work/active" "$item.cards" >"$work/hunks"
         new_section "$deck" "$now" "$(cat "$1/sets")" "$(mode_of "$item.file")" \
             "$work/section" "$work/listing" "$work/hunks" "$item.notes" >"$work/new" || exit 3
-        replace_section "$deck" "$work/new"
         rm -rf "$work/out"
         sh "$tree" "$work/after" "$work/out" <"$work/new" || exit 3
         path=$(printf '%b' "$(cat "$item.path")")
+        {
+            sed 2q "$work/new"
+            printf 'sum %s %s\n' "$(cksum <"$work/active")" "$(cksum <"$work/out/$path")"
+            sed 1,2d "$work/new"
+        } >"$work/section" && replace_section "$deck" "$work/section"
         refresh "$path" "$item.file" "$work/out/$path"
     done
-    rm -rf "$1"
+    mv -- "$1" "$1.noted" && rm -rf "$1.noted"
 }
 
 over_changes() {
@@ -268,7 +297,8 @@ send_all() {
             exit 1
         fi
         sed -n -e 's/^deck //p' -e 's/^part \([^ ]*\) .*/\1/p' "$put/list" >>"$work/ours"
-        cat "$put/list" >>"$list" && rm -f "$put/spool" || exit 3
+        if ! grep -qxF -e "$(sed 1q "$put/list")" "$list"; then cat "$list" "$put/list" >"$list.new" && mv "$list.new" "$list" || exit 3; fi
+        rm -f "$put/spool"
     fi
     for each in $(ls "$put" | grep '^[1-9][0-9]*$' | sort -n); do send "$put/$each"; done
     rm -rf "$put"
@@ -292,7 +322,8 @@ ask_message
 copy=$work/copy
 ask backup -- "$library" "$copy" && ask init "$work/empty" && start=$(youngest "$copy") && list_decks >"$work/decks" || exit 3
 next_number "$copy"
-cp "$work/idents" "$work/held" && cp "$work/idents" "$work/before" && sh "$tree" "$copy" "$work/tree" <"$list" || [ $? -eq 1 ] || exit 3
+cp "$work/idents" "$work/held" && cp "$work/idents" "$work/before" && cp "$list" "$work/now" || exit 3
+sh "$tree" --list "$work/now" "$copy" "$work/tree" || [ $? -eq 1 ] || exit 3
 run='' unfit=0 deck_count=0
 
 # Puts a deck's lines into the run that is made, or into the next one: a run is as of one ident, and else would meet earlier runs of
@@ -319,9 +350,9 @@ add_deck() {
 # The lines that correct a deck, by the set. A deck that needs several runs gets them.
 correct_deck() {
     if ask correct-at -- "$copy" "$set" "$since" <"$work/text" >"$work/part"; then
-        [ -s "$work/part" ] || printf '%s\n' "$deck" >>"$work/others"
-        [ -s "$work/part" ]
-        return
+        if [ -s "$work/part" ]; then return; fi
+        keep_noted
+        return 1
     fi
     first=$number
     if grep -q '^TooManyLines\|^RunLong' "$work/faults" && cut_text "$copy" "$work/text"; then
@@ -336,6 +367,31 @@ correct_deck() {
     return 1
 }
 
+# Keeps a file whose cards are those that it was made from, but not its line ends or rights, say.
+keep_noted() {
+    kept=$run run=$work/noted
+    keep_deck
+    run=$kept
+}
+
+# Whether both files are programs, or neither is.
+are_alike() {
+    if [ -x "$1" ]; then [ -x "$2" ]; else [ ! -x "$2" ]; fi
+}
+
+# A file that is gone. What others have done to its deck since has to be seen before that goes out of use.
+take_out() {
+    if [ -z "$gone" ]; then
+        say "$path is gone"
+    elif ask text -- "$copy" "$deck" >"$work/base" && [ "$(sed 1d "$work/base" | sum_of)" = "$sum" ]; then
+        printf '%s %s\n' "$deck" "$code" >>"$work/gone"
+        say "$path is gone: its deck $deck goes out of use"
+    else
+        say "$path is gone, but its deck $deck was changed by others, or LIST doesn't show: $again"
+        result=1
+    fi
+}
+
 # Keeps with the run what LIST needs once it is accepted.
 keep_deck() {
     deck_count=$((deck_count + 1))
@@ -344,7 +400,7 @@ keep_deck() {
         && printf '%s' "${c:-$fit}" >"$item.fit" && printf '%s\n' "$code" >"$item.path" && printf '%s\n' "$deck" >"$item.deck" || exit 3
 }
 
-: >"$work/same" && : >"$work/others" && : >"$work/gone" && : >"$work/ours" && awk '
+: >"$work/same" && : >"$work/gone" && : >"$work/unlisted" && : >"$work/stays" && : >"$work/ours" && : >"$work/others" && mkdir "$work/was" "$work/noted" && : >"$work/noted/sets" && awk '
     NR == FNR { if ($NF != "purged") serial[$2] = $1; next }
     { print serial[$3] + 0, FNR, $0 }' "$work/held" "$work/decks" | sort -k 1,1n -k 2,2n | cut -d ' ' -f 3- >"$work/order" || exit 3
 if [ $# -gt 0 ]; then
@@ -357,21 +413,33 @@ if [ $# -gt 0 ]; then
     number=$((number + $(grep -c "^RUN $site [0-9]* quick [0-9]*\$" "$work/spool")))
     sed -n -e 's/^deck //p' -e 's/^part \([^ ]*\) .*/0 \1/p' "$put/list" | sed 's/.*/0 & set held/' >>"$work/held"
 fi
-while read -r deck code since serial fit <&3; do
+while read -r deck code since serial sum file_sum fit <&3; do
     path=$(printf '%b' "$code")
-    if [ ! -e "$folder/$path" ]; then
-        if [ -n "$gone" ]; then printf '%s %s\n' "$deck" "$code" >>"$work/gone"; fi
-        say "$path is gone${gone:+: its deck $deck goes out of use}"
+    if [ -e "$folder/$path.upd" ]; then
+        say "$path.upd is there: put what it has into $path, and remove it"
+        unfit=1
         continue
-    elif cmp -s "$folder/$path" "$work/tree/$path"; then
+    elif [ ! -e "$work/tree/$path" ]; then
+        if [ -n "$gone" ] && [ ! -e "$folder/$path" ]; then
+            printf '%s\n' "$deck" >>"$work/unlisted"
+            continue
+        fi
+        say "$path stays as it is, since its deck $deck is purged or out of use. Remove it, and LIST forgets it by --gone"
+        printf '%s\n' "$deck" >>"$work/stays"
+        result=1
+        continue
+    elif [ ! -e "$folder/$path" ]; then
+        take_out
+        continue
+    elif cmp -s "$folder/$path" "$work/tree/$path" && are_alike "$folder/$path" "$work/tree/$path"; then
         printf '%s\n' "$deck" >>"$work/same"
+        continue
+    elif [ "$(sum_of <"$folder/$path")" = "$file_sum" ] && are_alike "$folder/$path" "$work/tree/$path"; then
+        deck_count=$((deck_count + 1))
+        cp "$folder/$path" "$work/was/$deck_count" && printf '%s %s %s\n' "$deck" "$code" "$deck_count" >>"$work/others" || exit 3
         continue
     elif [ "$since" = - ]; then
         say "LIST doesn't note as of which ident $path is: make the tree by tree.sh --list"
-        unfit=1
-        continue
-    elif ! is_held "$since" "$serial"; then
-        say "$path is not as the library has it, and $since was purged, the last ident that it has seen: $again"
         unfit=1
         continue
     fi
@@ -384,7 +452,20 @@ while read -r deck code since serial fit <&3; do
         ;;
     *) exit 3 ;;
     esac
+    if [ "$(sum_of <"$work/cards")" = "$sum" ]; then
+        keep_noted
+        continue
+    elif ! is_held "$since" "$serial"; then
+        say "$path is not as the library has it, and $since was purged, the last ident that it has seen: $again"
+        unfit=1
+        continue
+    fi
     ask text-at -- "$copy" "$deck" "$since" >"$work/base" && { sed 1q "$work/base" && cat "$work/cards"; } >"$work/text" || exit 3
+    if [ "$sum" != - ] && [ "$(sed 1d "$work/base" | sum_of)" != "$sum" ]; then
+        say "$path is not as the library has it, and cards of its deck $deck were purged: $again"
+        unfit=1
+        continue
+    fi
     add_deck
 done 3<"$work/order"
 [ "$unfit" -eq 0 ] || exit 1
@@ -402,18 +483,20 @@ if [ -n "$(ls "$put")" ]; then
     part=$(ls "$put" | grep '^[1-9][0-9]*$' | sort -n | head -n 1)
     while [ -e "$put/$part/run" ] && look "$put/$part"; do cat "$work/warnings" >&2; done # of an edit; part is then the next one's first run
     if [ -z "$yes" ] && ! agreed "send these runs? yes, show or no: "; then exit 1; fi
-    printf '%s %s\n' "$site" "$mode" >"$put/ready" || exit 3
+    printf '%s %s\n' "$site" "$mode" >"$put/readied" && mv "$put/readied" "$put/ready" || exit 3
     send_all
 fi
 rm -rf "$put"
 
-# Decks that only others have changed come into FOLDER.
-note_since "$work/same" "$start"
-while read -r deck; do
-    path=$(printf '%b' "$(awk -v deck="$deck" '$1 == deck { print $2 }' "$work/decks")")
-    cp "$folder/$path" "$work/was" && refresh "$path" "$work/was" "$work/tree/$path"
+# Decks that only others have changed come into FOLDER. LIST alone has blanks at the end of lines, line ends and rights.
+while read -r deck code count; do
+    path=$(printf '%b' "$code")
+    refresh "$path" "$work/was/$count" "$work/tree/$path"
+    printf '%s\n' "$deck" >>"$work/same"
 done <"$work/others"
-note_since "$work/others" "$start"
+note_same
+[ "$(ls "$work/noted")" = sets ] || note_run "$work/noted"
+while read -r deck; do replace_section "$deck" /dev/null; done <"$work/unlisted"
 
 # Where nobody else has sent anything meanwhile, each file is now as of the youngest ident.
 now=$(youngest "$library") || exit 3
@@ -422,7 +505,9 @@ if awk '
     FILENAME == ARGV[2] { was[FNR] = $0; next }
     FNR in was ? $0 != was[FNR] : !($2 in ours) { other = 1 }
     END { exit other }' "$work/ours" "$work/before" "$work/idents"; then
-    list_decks | while read -r deck code rest; do
+    list_decks | stays=$work/stays awk '
+        BEGIN { while ((getline deck < ENVIRON["stays"]) > 0) stays[deck] }
+        !($1 in stays)' | while read -r deck code rest; do
         if [ -e "$folder/$(printf '%b' "$code")" ]; then printf '%s\n' "$deck"; fi
     done >"$work/same"
     note_since "$work/same" "$now"

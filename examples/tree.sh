@@ -22,6 +22,7 @@
 #     deck NAME            begins a deck
 #     path PATH            its file in FOLDER; several lines are one path; \0 and three octal digits are a byte
 #     since IDENT SERIAL   the ident that was youngest when the file was that of the deck, and its serial, if that was known
+#     sum CRC BYTES ..     what cksum gave then of the deck's lines and of the file, by which put.sh sees changes and purges
 #     fit c                the file was made to fit by `--c`
 #     mode OOO             the file's rights, where they aren't 644
 #     part SET N           the lines from N on were added by SET
@@ -68,7 +69,7 @@ if [ -n "$list" ]; then
     library=$work/copy since=$(awk '$NF != "purged" { last = $2 " " $1 } END { print last }' "$work/idents")
     exec <"$list" || exit 3
 fi
-mkdir -- "$folder" || exit 3
+mkdir -- "$folder" && : >"$work/sums" || exit 3
 
 # The lines of the file, from the notes of a deck and its listing.
 restore() {
@@ -143,7 +144,7 @@ write_file() {
         ;;
     esac
     if ! grep -q '^A ' "$work/listing"; then
-        say "$1 has no active card: $path is not written"
+        say "$1 is not in the library or has no active card: $path is not written"
         result=1
         return
     fi
@@ -154,6 +155,9 @@ write_file() {
         return
     fi
     mkdir -p -- "${file%/*}" && restore "$1" >"$file" || exit 3
+    if [ -n "$list" ]; then
+        printf '%s %s %s\n' "$1" "$(sed -n '1!s/^A [^ ]* //p' "$work/listing" | sed 1d | cksum)" "$(cksum <"$file")" >>"$work/sums" || exit 3
+    fi
     mode=$(sed -n 's/^mode \([0-7][0-7][0-7]\)$/\1/p' "$work/notes")
     [ -z "$mode" ] || chmod "$mode" "$file" || exit 3
 }
@@ -171,8 +175,9 @@ while read -r word rest || [ -n "$word" ]; do
 done
 if [ -n "$deck" ]; then write_file "$deck" "$path"; fi
 if [ -n "$list" ]; then
-    since=$since awk '
-        $1 != "since" { print }
-        $1 == "deck" { print "since " ENVIRON["since"] }' "$list" >"$list.new" && mv "$list.new" "$list" || exit 3
+    since=$since awk -v sums="$work/sums" '
+        BEGIN { while ((getline line < sums) > 0) { split(line, word, " "); sum[word[1]] = "sum " substr(line, length(word[1]) + 2) } }
+        $1 != "since" && $1 != "sum" { print }
+        $1 == "deck" { print "since " ENVIRON["since"]; if ($2 in sum) print sum[$2] }' "$list" >"$list.new" && mv "$list.new" "$list" || exit 3
 fi
 exit "$result"
