@@ -14,66 +14,39 @@ use Rattle.upd_sql.specs.Encoded.{version_row}
 use Rattle.upd_sql.specs.Making.{schema_up_to, no_rows_in, MakesNext}
 use Rattle.upd_sql.proofs.WriteTexts as text
 
-abbrev pub create_meta : List ℕ
-create_meta = CREATE_META.now
-
-pub makes_meta : MakesNext 0 create_meta
+pub makes_meta : MakesNext 0 CREATE_META.now
 unfolding understood everything
 makes_meta = record { is = refl; plain = (refl, refl); table = meta; defined = refl; lacks = refl; next = refl; rows = refl }
 
-abbrev pub create_idents : List ℕ
-create_idents = CREATE_IDENTS.now
-
-pub makes_idents : MakesNext 1 create_idents
+pub makes_idents : MakesNext 1 CREATE_IDENTS.now
 unfolding understood everything
 makes_idents = record { is = refl; plain = (refl, refl); table = idents; defined = refl; lacks = refl; next = refl; rows = refl }
 
-abbrev pub create_cards : List ℕ
-create_cards = CREATE_CARDS.now
-
-pub makes_cards : MakesNext 2 create_cards
+pub makes_cards : MakesNext 2 CREATE_CARDS.now
 unfolding understood everything
 makes_cards = record { is = refl; plain = (refl, refl); table = cards; defined = refl; lacks = refl; next = refl; rows = refl }
 
-abbrev pub create_entries : List ℕ
-create_entries = CREATE_ENTRIES.now
-
-pub makes_entries : MakesNext 3 create_entries
+pub makes_entries : MakesNext 3 CREATE_ENTRIES.now
 unfolding understood everything
 makes_entries = record { is = refl; plain = (refl, refl); table = entries; defined = refl; lacks = refl; next = refl; rows = refl }
 
-abbrev pub create_targets : List ℕ
-create_targets = CREATE_TARGETS.now
-
-pub makes_targets : MakesNext 4 create_targets
+pub makes_targets : MakesNext 4 CREATE_TARGETS.now
 unfolding understood everything
 makes_targets = record { is = refl; plain = (refl, refl); table = targets; defined = refl; lacks = refl; next = refl; rows = refl }
 
-abbrev pub create_runs : List ℕ
-create_runs = CREATE_RUNS.now
-
-pub makes_runs : MakesNext 5 create_runs
+pub makes_runs : MakesNext 5 CREATE_RUNS.now
 unfolding understood everything
 makes_runs = record { is = refl; plain = (refl, refl); table = runs; defined = refl; lacks = refl; next = refl; rows = refl }
 
-abbrev pub create_states : List ℕ
-create_states = CREATE_STATES.now
-
-pub makes_states : MakesNext 6 create_states
+pub makes_states : MakesNext 6 CREATE_STATES.now
 unfolding understood everything
 makes_states = record { is = refl; plain = (refl, refl); table = states; defined = refl; lacks = refl; next = refl; rows = refl }
 
-abbrev pub create_counts : List ℕ
-create_counts = CREATE_COUNTS.now
-
-pub makes_counts : MakesNext 7 create_counts
+pub makes_counts : MakesNext 7 CREATE_COUNTS.now
 unfolding understood everything
 makes_counts = record { is = refl; plain = (refl, refl); table = counts; defined = refl; lacks = refl; next = refl; rows = refl }
 
-abbrev pub create_settled : List ℕ
-create_settled = CREATE_SETTLED.now
-
-pub makes_settled : MakesNext 8 create_settled
+pub makes_settled : MakesNext 8 CREATE_SETTLED.now
 unfolding understood everything
 makes_settled = record { is = refl; plain = (refl, refl); table = settled; defined = refl; lacks = refl; next = refl; rows = refl }
 

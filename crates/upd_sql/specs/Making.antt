@@ -64,6 +64,11 @@ pub record Transforms {X : Type 0} (Before After : Database → Type 0) (old new
 abbrev pub MakesTable : {X : Type 0} → List ℕ → State → State → Result X Error → Type 0
 MakesTable sql old new r = (n : ℕ) → MakesNext n sql → Transforms (HasEmptyTables n) (HasEmptyTables (n + 1)) old new r
 
+-- three statements make the next tables, whichever these are
+abbrev pub MakesThree : {X : Type 0} → (first second third : List ℕ) → State → State → Result X Error → Type 0
+MakesThree first second third old new r = (n : ℕ) → MakesNext n first → MakesNext (n + 1) second → MakesNext (n + 1 + 1) third
+    → Transforms (HasEmptyTables n) (HasEmptyTables (n + 1 + 1 + 1)) old new r
+
 -- what a crash may leave while the tables are made
 abbrev pub MayMake : State → Trees → Type 0
 MayMake old trees = IsTrue old.is_open × (old.committed.schema ≡ no_schema → ShowsIn trees no_rows)

@@ -3,7 +3,7 @@ ghost use Rattle.std.specs.Prelude.{◌≡◌, false, IsTrue, OnErr, OnOk};
 ghost use Rattle.sqlite.specs.Held.{state};
 ghost use Rattle.sqlite.specs.State.{HasCleanDisk, Survives};
 ghost use Rattle.upd_sql.specs.Commits.{Inside, WasOpen};
-ghost use Rattle.upd_sql.specs.Making.{no_rows, HasEmptyTables, MakesTable, MayMake, Transforms};
+ghost use Rattle.upd_sql.specs.Making.{no_rows, HasEmptyTables, MakesTable, MakesThree, MayMake, Transforms};
 ghost use Rattle.upd_sql.specs.Schema.{no_schema};
 ghost use Rattle.upd_sql.specs.LibraryTables.{ShowsTables, HoldsTables};
 
@@ -26,31 +26,18 @@ fn insert_version<S: Alter>(tx: &mut Transaction<'_, S>) -> Result<(), Error>
     run(tx, texts::INSERT_VERSION, &[])
 }
 
-/// Makes the tables of the version, the idents and the cards.
-fn create_cards<S: Alter>(tx: &mut Transaction<'_, S>) -> Result<(), Error>
-    ensures { Inside (state S.Store) (Transforms (HasEmptyTables 0) (HasEmptyTables 3)) tx.old.conn tx.new.conn result }
+/// Makes the next three tables.
+fn create_three<S: Alter>(
+    tx: &mut Transaction<'_, S>,
+    first: &str,
+    second: &str,
+    third: &str,
+) -> Result<(), Error>
+    ensures { Inside (state S.Store) (MakesThree first.now second.now third.now) tx.old.conn tx.new.conn result }
 {
-    create(tx, texts::CREATE_META)?;
-    create(tx, texts::CREATE_IDENTS)?;
-    create(tx, texts::CREATE_CARDS)
-}
-
-/// Makes the tables of entries, targets and runs.
-fn create_runs<S: Alter>(tx: &mut Transaction<'_, S>) -> Result<(), Error>
-    ensures { Inside (state S.Store) (Transforms (HasEmptyTables 3) (HasEmptyTables 6)) tx.old.conn tx.new.conn result }
-{
-    create(tx, texts::CREATE_ENTRIES)?;
-    create(tx, texts::CREATE_TARGETS)?;
-    create(tx, texts::CREATE_RUNS)
-}
-
-/// Makes the tables of statuses, counts and settled marks.
-fn create_marks<S: Alter>(tx: &mut Transaction<'_, S>) -> Result<(), Error>
-    ensures { Inside (state S.Store) (Transforms (HasEmptyTables 6) (HasEmptyTables 9)) tx.old.conn tx.new.conn result }
-{
-    create(tx, texts::CREATE_STATES)?;
-    create(tx, texts::CREATE_COUNTS)?;
-    create(tx, texts::CREATE_SETTLED)
+    create(tx, first)?;
+    create(tx, second)?;
+    create(tx, third)
 }
 
 /// Makes all tables, and writes the version.
@@ -58,9 +45,24 @@ fn make_tables<S: Alter>(tx: &mut Transaction<'_, S>) -> Result<(), Error>
     ensures transforms { Inside (state S.Store) (Transforms (HasEmptyTables 0) (HoldsTables no_rows)) tx.old.conn tx.new.conn result }
     ensures was_open { WasOpen (state S.Store tx.old.conn.now) (state S.Store tx.new.conn.now) result }
 {
-    create_cards(tx)?;
-    create_runs(tx)?;
-    create_marks(tx)?;
+    create_three(
+        tx,
+        texts::CREATE_META,
+        texts::CREATE_IDENTS,
+        texts::CREATE_CARDS,
+    )?;
+    create_three(
+        tx,
+        texts::CREATE_ENTRIES,
+        texts::CREATE_TARGETS,
+        texts::CREATE_RUNS,
+    )?;
+    create_three(
+        tx,
+        texts::CREATE_STATES,
+        texts::CREATE_COUNTS,
+        texts::CREATE_SETTLED,
+    )?;
     insert_version(tx)
 }
 
