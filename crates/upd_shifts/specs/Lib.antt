@@ -1,2 +1,3 @@
+pub mod Plans
 pub mod Ranges
 pub mod Shifts

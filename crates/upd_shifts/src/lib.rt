@@ -6,6 +6,7 @@
 
 pub mod moves;
 pub mod pieces;
+pub mod plans;
 pub mod ranges;
 pub mod right;
 pub mod shift;
@@ -13,6 +14,7 @@ pub mod shifts;
 
 pub use moves::{Move, are_behind, moves_of, part_ahead};
 pub use pieces::{Piece, pieces_of, place_by};
+pub use plans::{DeckPlan, plans_of};
 pub use ranges::{CardRange, CardRows, Gone, GoneCards, gone_cards, gone_of};
 pub use shift::Shift;
 pub use shifts::shifts_of;

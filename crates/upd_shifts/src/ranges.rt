@@ -25,6 +25,10 @@ pub struct CardRange {
     pub last: u32,
 }
 
+/// A range has no more cards. The last range goes first, and the cards of one range from its first: a page of a tree moves
+/// the rows after one that goes, so few are to be left there.
+const MOST_CARDS: u32 = 16;
+
 impl CardRange {
     /// One card.
     pub fn of(card: &CardRef) -> CardRange
@@ -37,12 +41,20 @@ impl CardRange {
         }
     }
 
-    /// These cards and another one, if that is the next.
+    fn is_full(&self) -> bool {
+        MOST_CARDS <= self.last.saturating_sub(self.first).saturating_add(1)
+    }
+
+    /// These cards and another one, if that is the next and there is room.
     fn and(&self, card: &CardRef) -> Option<CardRange>
         ensures { IfSome result (λ more. (c : CardRef) → in_range more c ≡ (in_range self.now c || same_ref card.now c)) }
     {
         let before = card.number.saturating_sub(1);
-        if self.name != card.name || card.number < self.first || self.last != before {
+        if self.name != card.name
+            || card.number < self.first
+            || self.last != before
+            || self.is_full()
+        {
             return None;
         }
         Some(CardRange {
@@ -73,14 +85,23 @@ fn joined(alloc: Global, first: &CardRef, cards: &[CardRef]) -> Option<Vec<CardR
     Some(ranges)
 }
 
-/// These cards as ranges; none where memory runs out.
+/// Ranges, the last one first.
+fn from_last(ranges: Vec<CardRange>) -> Vec<CardRange>
+    ensures { (c : CardRef) → in_ranges result.items c ≡ in_ranges ranges.items c }
+{
+    let mut ranges = ranges;
+    ranges.reverse();
+    ranges
+}
+
+/// These cards as ranges, from the last card to the first; none where memory runs out.
 fn ranges_of(alloc: Global, cards: Vec<CardRef>) -> Option<Vec<CardRange>>
     ensures { IfSome result (λ ranges. (c : CardRef) → in_ranges ranges.items c ≡ is_among cards.items c) }
 {
     let mut cards = cards;
     cards.sort().ok()?;
     match cards.split_first() {
-        Some((first, rest)) => joined(alloc, first, rest),
+        Some((first, rest)) => Some(from_last(joined(alloc, first, rest)?)),
         None => Some(Vec::new(alloc)),
     }
 }

@@ -13,7 +13,7 @@ use crate::shift::Shift;
 use upd_core::Serial;
 use upd_records::CardRow;
 
-fn is_behind(deck: Serial, from: u32, row: &CardRow) -> bool
+pub(crate) fn is_behind(deck: Serial, from: u32, row: &CardRow) -> bool
     ensures { result ≡ is_behind deck from row.now }
 {
     row.deck == deck && from <= row.pos

@@ -20,3 +20,4 @@ pub mod MovingTexts
 pub mod MovingEffects
 pub mod TogetherLemmas
 pub mod RemovingLemmas
+pub mod ManyDeckLemmas

@@ -18,6 +18,7 @@ use Rattle.upd_sql.proofs.Typed.{changes, reads_exactly}
 use Rattle.upd_sql.proofs.Casts.{cast_card}
 use Rattle.upd_sql.proofs.Conditions.{bytes_flip, passes}
 use Rattle.upd_sql.proofs.ReadTexts.{five}
+use Rattle.upd_sql.proofs.WholeLemmas.{all_pass}
 use Rattle.upd_sql.proofs.WriteTexts.{place_tests}
 use Rattle.upd_sql.proofs.MovingTexts as text
 use Rattle.upd_sql.specs.declared.moving_texts.TheConstants as sql
@@ -39,6 +40,12 @@ sum_of (negsuc n) p can = less_nat p n can.0 (omega (arith, can.1))
 
 abbrev pub shift_params : ℕ → ℕ → Shift → Row
 shift_params deck from s = Text s.name ∷ num s.first ∷ num s.last ∷ num deck ∷ num from ∷ Int s.by ∷ []
+
+pub cards_turned : (old new : State) (rows : List Row) (it : Rows) (h : HoldsTables it old.now) → Shown sql.CARDS_IN_TURN.now [] old new rows
+    → rows ≡ map card_row it.cards
+cards_turned old new rows it h shown =
+    reads_exactly 2 4 refl card_row (stored it) it.cards refl _ [] old new rows shown h [] five text.cards_in_turn refl refl (λ _. true) (λ x. refl) (λ x. refl)
+    ∙ ap (map card_row) (all_pass it.cards)
 
 module _ (deck from : ℕ) where
   behind : (r : CardRow) → passes (num deck ∷ num from ∷ []) place_tests (card_row r) ≡ is_behind deck from r

@@ -13,6 +13,10 @@ pub cards_behind : Reads sql.CARDS_BEHIND.now 4 place_tests five row_order
 unfolding understood everything
 cards_behind = record { names = _; is = refl; plain = (refl, refl); unlisted = refl }
 
+pub cards_in_turn : Reads sql.CARDS_IN_TURN.now 4 [] five row_order
+unfolding understood everything
+cards_in_turn = record { names = _; is = refl; plain = (refl, refl); unlisted = refl }
+
 abbrev pub move_shift : List ℕ
 move_shift = sql.MOVE_SHIFT.now
 

@@ -10,7 +10,6 @@ use Rattle.upd_row_store.specs.Movable.{AllMoveListed}
 use Rattle.upd_shifts.specs.declared.moves.Move.{Move}
 use Rattle.upd_shifts.specs.declared.shift.Shift.{Shift}
 use Rattle.upd_shifts.specs.Shifts.{CanShift, CanShiftAll, IsRight, as_change, is_behind, moved_all, shifted_all, shifted_row, with_shifted}
-use Rattle.upd_shifts.proofs.ShiftLemmas.{moves_past, not_behind}
 use Rattle.upd_sql.specs.Commits.{Looks}
 use Rattle.upd_sql.specs.Moving.{AllCanShift, AllRight, MakesIf, with_all_shifted}
 
@@ -21,6 +20,18 @@ mapped_id (x ∷ xs) = ap (λ l. x ∷ l) (mapped_id xs)
 mapped_each : {A B : Type 0} (f g : A → B) (xs : List A) → AllByRecursion (λ x. f x ≡ g x) xs → map f xs ≡ map g xs
 mapped_each f g [] h = refl
 mapped_each f g (x ∷ xs) h = ap (λ y. y ∷ map f xs) h.0 ∙ ap (λ l. g x ∷ l) (mapped_each f g xs h.1)
+
+-- what was found can be made, and does what is wanted
+pub made_found : {X Y : Type 0} (Can : Rows → Type 0) (change wanted : Rows → Rows) (a b c : State) (x : X) (y : Y)
+    → Looks {X = X} (λ it found. Can it × (change it ≡ wanted it)) a b (Ok x) → Makes {X = Y} HoldsTables Can change b c (Ok y) → MakesIf wanted a c (Ok true)
+made_found Can change wanted a b c x y looks q = record {
+  steps = let all = steps_then a b c x (Ok y) looks.steps q.steps in record { going = all.going; kept = all.kept; survives = all.survives };
+  made = λ clean inside it h.
+      let early = clean_before b c _ q.steps.survives clean in
+      let held : HoldsTables it b.now = subst (HoldsTables it) (sym (looks.same early h.schema_is)) h in
+      let all = looks.found early it h in
+      subst (λ rows. HoldsTables rows c.now) all.1 (q.made clean (looks.steps.going early inside) it all.0 held);
+}
 
 -- ---- one shift after another
 
@@ -61,14 +72,14 @@ module _ (deck from : ℕ) where
       all_shifted ss (with_shifted deck from s it)
       ∙ ap (λ cards. record it { cards = cards }) (map-map (shifted_all deck from ss) (shifted_row deck from s) it.cards)
 
-  all_moved : (ms : List Move) (it : Rows) → done_all (map (as_change deck) ms) it ≡ record it { cards = map (moved_all deck ms) it.cards }
+  pub all_moved : (ms : List Move) (it : Rows) → done_all (map (as_change deck) ms) it ≡ record it { cards = map (moved_all deck ms) it.cards }
   all_moved [] it = ap (λ cards. record it { cards = cards }) (sym (mapped_id it.cards))
   all_moved (m ∷ ms) it =
       all_moved ms (done (as_change deck m) it)
       ∙ ap (λ cards. record it { cards = cards }) (map-map (moved_all deck ms) (moved_row deck m.from m.by) it.cards)
 
   module _ (ms : List Move) (ss : List Shift) where
-    together : (it : Rows) → AllRight deck from ms ss it
+    pub together : (it : Rows) → AllRight deck from ms ss it
         → AllCanShift deck from ss it × (with_all_shifted deck from ss it ≡ done_all (map (as_change deck) ms) it)
     together it right = (
       all_can ss it (all_weaker _ _ (λ r is. is.can) it.cards right),
@@ -78,34 +89,13 @@ module _ (deck from : ℕ) where
           ∙ sym (all_moved ms it),
     )
 
-    -- what is right of the rows that are behind is right of all
-    pub all_right : (rs : List CardRow) → AllByRecursion (λ m. from ≤ m.from) ms → AllByRecursion (IsRight deck from ms ss) (filter (is_behind deck from) rs)
-        → AllByRecursion (IsRight deck from ms ss) rs
-    all_right [] low h = tt
-    all_right (r ∷ rs) low h = go (is_behind deck from r) refl h (all_right rs low)
-      where
-        go : (b : Bool) → is_behind deck from r ≡ b
-            → AllByRecursion (IsRight deck from ms ss) (cond b (r ∷ filter (is_behind deck from) rs) (filter (is_behind deck from) rs))
-            → (AllByRecursion (IsRight deck from ms ss) (filter (is_behind deck from) rs) → AllByRecursion (IsRight deck from ms ss) rs)
-            → AllByRecursion (IsRight deck from ms ss) (r ∷ rs)
-        go true is h rest = (h.0, rest h.1)
-        go false is h rest =
-            let still = not_behind deck from ss r is in
-            (record { can = still.0; same = still.1 ∙ sym (moves_past deck from ms r low is) }, rest h)
-
     -- ---- steps of a transaction
 
     pub made_together : {Y : Type 0} (a b c : State) (y : Y) → Looks {X = List Shift} (λ it found. AllRight deck from ms found it) a b (Ok ss)
         → Makes {X = Y} HoldsTables (AllCanShift deck from ss) (with_all_shifted deck from ss) b c (Ok y)
         → MakesIf (done_all (map (as_change deck) ms)) a c (Ok true)
-    made_together a b c y looks q = record {
-      steps = let all = steps_then a b c ss (Ok y) looks.steps q.steps in record { going = all.going; kept = all.kept; survives = all.survives };
-      made = λ clean inside it h.
-          let early = clean_before b c _ q.steps.survives clean in
-          let held : HoldsTables it b.now = subst (HoldsTables it) (sym (looks.same early h.schema_is)) h in
-          let all = together it (looks.found early it h) in
-          subst (λ rows. HoldsTables rows c.now) all.1 (q.made clean (looks.steps.going early inside) it all.0 held);
-    }
+    made_together a b c y looks q = made_found (AllCanShift deck from ss) (with_all_shifted deck from ss) (done_all (map (as_change deck) ms)) a b c ss y
+        (record { steps = looks.steps; was_open = looks.was_open; same = looks.same; found = λ clean it h. together it (looks.found clean it h) }) q
 
 pub on_some : {A : Type 0} {P Q : A → Type 0} (o : Option A) → IfSome o P → ((x : A) → P x → Q x) → IfSome o Q
 on_some None h f = tt
@@ -194,7 +184,7 @@ can_parts (Some movable) cs ds it h =
     let listed = listed_parts movable cs ds it h.1 in
     ((fit.0, listed.0), (fit.1, listed.1))
 
-done_parts : (cs ds : List ChangeView) (it : Rows) → done_all ds (done_all cs it) ≡ done_all (cs ++ ds) it
+pub done_parts : (cs ds : List ChangeView) (it : Rows) → done_all ds (done_all cs it) ≡ done_all (cs ++ ds) it
 done_parts [] ds it = refl
 done_parts (c ∷ cs) ds it = done_parts cs ds (done c it)
 

@@ -10,3 +10,4 @@ pub mod Making
 pub mod Wanted
 pub mod Doable
 pub mod Moving
+pub mod ManyDecks

@@ -7,6 +7,7 @@
 mod commits;
 mod decode;
 mod make;
+mod many_decks;
 mod moving;
 mod moving_texts;
 mod reads;

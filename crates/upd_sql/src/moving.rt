@@ -66,7 +66,7 @@ fn move_shift<S: Alter>(
 }
 
 /// Moves the cards of shifts, those of one after those of another.
-fn move_shifts<S: Alter>(
+pub(crate) fn move_shifts<S: Alter>(
     tx: &mut Transaction<'_, S>,
     deck: Serial,
     from: u32,

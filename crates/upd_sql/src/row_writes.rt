@@ -13,6 +13,7 @@ ghost use Rattle.upd_sql.specs.LibraryTables.{AnyTables, HoldsTables};
 ghost use Rattle.upd_sql.specs.Moving.{MakesIf};
 ghost use Rattle.upd_sql.specs.RowEdits.{with_state, without_states};
 
+use crate::many_decks::{move_decks_together, part_in_decks};
 use crate::moving::move_together;
 use crate::removing::{remove, remove_together};
 use crate::writes;
@@ -20,7 +21,7 @@ use sqlite::{Alter, Error, Transaction};
 use std::alloc::Global;
 use std::collections::BTreeMap;
 use upd_core::{CardRef, Change, Name, Serial, Target};
-use upd_shifts::{CardRange, CardRows, Move, moves_of, part_ahead};
+use upd_shifts::{CardRange, CardRows, Move, moves_of};
 
 /// Puts the card's status after all others, in place of those that the card has.
 fn replace_state<S: Alter>(
@@ -204,6 +205,26 @@ fn carry_out_unlisted<S: Alter>(
     carry_out_each(tx, None, changes)
 }
 
+/// Carries out changes in order: at once, where they are moves in many decks. Where it is known which cards may move, it
+/// looks for these only.
+fn carry_out_moves<S: Alter>(
+    tx: &mut Transaction<'_, S>,
+    alloc: Global,
+    movable: Option<&BTreeMap<Name, u32>>,
+    changes: &[Change],
+) -> Result<(), Error>
+    ensures { Inside (state S.Store) (Makes HoldsTables (AllCanBeDone (option_copied movable.entry) (map change_view changes.now))
+        (done_all (map change_view changes.now))) tx.old.conn tx.new.conn result }
+{
+    if move_decks_together(tx, alloc, changes)? {
+        return Ok(());
+    }
+    match movable {
+        Some(_) => carry_out_each(tx, movable, changes),
+        None => carry_out_unlisted(tx, alloc, changes),
+    }
+}
+
 /// Carries out changes in order: at once, where cards go or are moved often. Where it is known which cards may move, it
 /// looks for these only.
 fn carry_out_part<S: Alter>(
@@ -218,10 +239,7 @@ fn carry_out_part<S: Alter>(
     if remove_together(tx, alloc, changes)? {
         return Ok(());
     }
-    match movable {
-        Some(_) => carry_out_each(tx, movable, changes),
-        None => carry_out_unlisted(tx, alloc, changes),
-    }
+    carry_out_moves(tx, alloc, movable, changes)
 }
 
 /// Carries out changes in order, inside a transaction. Where it is known which cards may move, it looks for these only.
@@ -236,7 +254,7 @@ pub(crate) fn carry_out_moving<S: Alter>(
 {
     let mut at = 0;
     while at < changes.len() {
-        let next = at + part_ahead(&changes[at..]);
+        let next = at + part_in_decks(&changes[at..], movable.is_some());
         carry_out_part(tx, alloc, movable, &changes[at..next])?;
         at = next;
     }

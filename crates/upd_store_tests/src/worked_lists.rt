@@ -156,7 +156,51 @@ const THE_LAST_OF_900_YANKS_IS_TAKEN_BACK: &[Step] = &[
 
 const TAKEN_BACK: Step = Accepts(4, "full", "*IDENT W\n*DELETE Y900.1\n", &["W"], ALL);
 
-const LISTS: [&[Step]; 7] = [
+const FIVE: &str =
+    "*DECK A\nA1\nA2\n*DECK B\nB1\nB2\n*DECK C\nC1\nC2\n*DECK D\nD1\nD2\n*DECK E\nE1\nE2\n";
+
+const OF_FIVE: &[Line<'static>] = &[
+    ("A1", "A", 2),
+    ("A2", "A", 3),
+    ("B1", "B", 2),
+    ("B2", "B", 3),
+    ("C1", "C", 2),
+    ("C2", "C", 3),
+    ("D1", "D", 2),
+    ("D2", "D", 3),
+    ("E1", "E", 2),
+    ("E2", "E", 3),
+];
+
+const IN_EACH: &str = "*IDENT X\n*I A.1\nXA\n*I B.2\nXB\n*I C.1\nXC\n*I D.2\nXD\n*B E.3\nXE\n";
+
+const WITH_ONE_IN_EACH: &[Line<'static>] = &[
+    ("XA", "X", 1),
+    ("A1", "A", 2),
+    ("A2", "A", 3),
+    ("B1", "B", 2),
+    ("XB", "X", 2),
+    ("B2", "B", 3),
+    ("XC", "X", 3),
+    ("C1", "C", 2),
+    ("C2", "C", 3),
+    ("D1", "D", 2),
+    ("XD", "X", 4),
+    ("D2", "D", 3),
+    ("E1", "E", 2),
+    ("XE", "X", 5),
+    ("E2", "E", 3),
+];
+
+/// A set puts a card into each of five decks, and is purged.
+const CARDS_COME_INTO_MANY_DECKS_AND_GO: &[Step] = &[
+    Accepts(1, "full", FIVE, &["A", "B", "C", "D", "E"], OF_FIVE),
+    Accepts(2, "full", IN_EACH, &["X"], WITH_ONE_IN_EACH),
+    Accepts(3, "full", "*PURGE X\n", &[], OF_FIVE),
+    Accepts(4, "full", IN_EACH, &["X"], WITH_ONE_IN_EACH),
+];
+
+const LISTS: [&[Step]; 8] = [
     A_YANK_IS_YANKED_AND_CORRECTED,
     RUNS_ACT_IN_ORDER_OF_FIRST_ARRIVAL,
     REFUSALS_ARE_STORED,
@@ -164,6 +208,7 @@ const LISTS: [&[Step]; 7] = [
     A_PURGED_COMMON_DECK_IS_MISSED,
     A_SETTLED_RUN_NEVER_ACTS_AGAIN,
     THE_LAST_OF_900_YANKS_IS_TAKEN_BACK,
+    CARDS_COME_INTO_MANY_DECKS_AND_GO,
 ];
 
 /// The empty run 1 of PARIS in full mode.

@@ -3,13 +3,11 @@ use Rattle.std.proofs.lemmas.List.Sorted.{list_any-IsPermutation}
 use Rattle.upd_records.specs.Rows.{same_ref}
 use Rattle.upd_text.specs.declared.card_ref.CardRef.{CardRef}
 use Rattle.upd_shifts.specs.Ranges.{is_among}
-use Rattle.upd_shifts.proofs.RangeLemmas.{on_some}
 use Rattle.upd_shifts.proofs.ranges.ranges_of.Goals as goal
 
 pub returns-in-Some : goal.returns-in-Some
-returns-in-Some c =
+returns-in-Some c = λ x.
     let sorted : List CardRef = c.sort.new.self.items in
     let parts : sorted ≡ c.in-Some.first.now ∷ c.in-Some.rest.now = sym c.deref.ensures.value ∙ c.in-Some.ensures.cases.0 in
-    on_some c.joined.result c.joined.ensures (λ ranges are x.
-    are x ∙ ap (λ cards. is_among cards x) (sym parts)
-    ∙ sym (list_any-IsPermutation (λ card. same_ref card x) c.args.cards.items sorted c.sort.ensures.permutation))
+    c.from_last.ensures x ∙ c.in_ok-joined-in-Some.ensures x ∙ ap (λ cards. is_among cards x) (sym parts)
+    ∙ sym (list_any-IsPermutation (λ card. same_ref card x) c.args.cards.items sorted c.sort.ensures.permutation)

@@ -2,7 +2,8 @@ use Rattle.upd_sql.proofs.Common.{◌≡◌, filter, sym, subst, ◌∙◌, stat
 use Rattle.std.proofs.Common.{IfSome, ◌≤◌}
 use Rattle.upd_shifts.specs.Shifts.{IsRight, is_behind}
 use Rattle.upd_sql.specs.Moving.{AllRight}
-use Rattle.upd_sql.proofs.TogetherLemmas.{all_right, looks_as, on_some}
+use Rattle.upd_shifts.proofs.PlanLemmas.{all_right}
+use Rattle.upd_sql.proofs.TogetherLemmas.{looks_as, on_some}
 use Rattle.upd_sql.proofs.moving.shifts_in.Goals as goal
 
 pub returns-then-are_behind : goal.returns-then-are_behind

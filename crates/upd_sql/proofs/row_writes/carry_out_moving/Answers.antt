@@ -10,8 +10,8 @@ pub loop-at-preserved : goal.loop-at-preserved
 loop-at-preserved g c =
     let changes = c.args.changes.now in
     let at = c.loop-at.at in
-    let n = c.part_ahead.result in
-    let bound : at + n ≤ length changes = grind (arith, common_steps, c.part_ahead.ensures.1, c.loop-at-test.true) in
+    let n = c.part_in_decks.result in
+    let bound : at + n ≤ length changes = grind (arith, common_steps, c.part_in_decks.ensures.1, c.loop-at-test.true) in
     let same : at + n - at ≡ n = omega arith in
     let before = map change_view (take at changes) in
     let part = map change_view (take (at + n - at) (drop at changes)) in
