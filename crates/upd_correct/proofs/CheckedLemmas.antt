@@ -162,12 +162,7 @@ checked_corrects last taken l set text run decks given named needed is = record 
   given = given;
   named = named;
   needed = needed;
-  lines = is.lines;
-  after = is.after;
-  read = is.read;
-  accepted = is.accepted;
-  compile = is.compile;
-  whole = is.corrects;
+  checked = is;
   others = λ d less none. deck_same (live_targets taken) last l is.after.library set run decks d is.corrects less none;
   kept = all_weaker (LeadsCards (live_targets taken) last l is.after.library) (KeepsCards l is.after.library) decks
       (λ t leads. cards_kept (live_targets taken) last l is.after.library is.corrects.yanks t leads.0) is.corrects.cards;

@@ -15,8 +15,8 @@ pub use Rattle.upd_core.specs.Status.{LiveView}
 pub use Rattle.upd_core.specs.declared.target.Target.{Target}
 pub use Rattle.upd_correct.specs.Checked.{AreDecksFrom, AreLeft, Corrects, Empty, HasTexts, IsChecked, IsDeckLeft, LeadsCards, New, Old, held_serials, new_decks}
 pub use Rattle.upd_correct.specs.Correcting.{CorrectsSince, CorrectsTo}
-pub use Rattle.upd_correct.specs.EditedText.{HasDecks, IsReadAs, NewDeck, RunLine, card_line, first_line, lines_in, new_deck_lines, texts_of}
-pub use Rattle.upd_correct.specs.LineReads.{HasReading}
+pub use Rattle.upd_correct.specs.EditedText.{NewDeck, lines_in, texts_of}
+pub use Rattle.upd_correct.specs.LineReads.{HasDecks, HasReading}
 pub use Rattle.upd_correct.specs.ListedDeck.{ListedView, is_other, listed_card, listed_name}
 pub use Rattle.upd_correct.specs.Parts.{Follows, part_name}
 pub use Rattle.upd_correct.specs.Problems.{deck_problem, line_problem}

@@ -1,7 +1,9 @@
 -- One more line of an edited text: the decks and the refusals that it gives.
 use Rattle.upd_correct.proofs.Common.{◌≡◌, ℕ, ◌+◌, List, [], ◌∷◌, ◌++◌, map, length, refl, sym, ap, ◌∙◌, append_assoc, append-nil, map-append}
-use Rattle.upd_correct.proofs.Common.{flat_map-append, option_map_or, LibraryView, reading, NewDeck, first_line}
-use Rattle.upd_correct.proofs.Common.{Refusal, IsReadAs, card_line, HasReading, deck_problem, line_problem, AreReadFrom}
+use Rattle.upd_correct.proofs.Common.{flat_map-append, option_map_or, LibraryView, reading, NewDeck}
+use Rattle.upd_correct.proofs.Common.{Refusal, HasReading, deck_problem, line_problem, AreReadFrom}
+use Rattle.upd_correct.specs.EditedText.{First, Further}
+use Rattle.upd_correct.specs.LineReads.{IsReadAs}
 use Rattle.upd_correct.proofs.Common.{head_read, lines_refusals, refusals_at}
 use Rattle.std.specs.Prelude.{Option, Some, None}
 use Rattle.upd_correct.specs.declared.refusal.Problem.{Problem}
@@ -80,7 +82,7 @@ no_names names decks e none = sym e ∙ ap (map (λ (d : NewDeck). d.name)) none
 
 -- a further line before any deck
 pub lost_taken : (l : LibraryView) (set : List ℕ) (earlier : List Refusal) (lines : List (List ℕ)) (line text : List ℕ) (decks new_decks : List NewDeck)
-    (old new : List Refusal) (number : ℕ) → number ≡ length lines + 1 → HasReading line None None × IsReadAs line (card_line text) → decks ≡ []
+    (old new : List Refusal) (number : ℕ) → number ≡ length lines + 1 → IsReadAs line (Further text) → decks ≡ []
     → new_decks ≡ decks → new ≡ old ++ record { line = number; column = 1; problem = NoDeck } ∷ [] → AreReadFrom l set earlier lines decks old
     → AreReadFrom l set earlier (lines ++ line ∷ []) new_decks new
 lost_taken l set earlier lines line text decks new_decks old new number at is empty same now are =
@@ -97,18 +99,18 @@ lost_taken l set earlier lines line text decks new_decks old new number at is em
 
 pub head_taken : (l : LibraryView) (set : List ℕ) (earlier : List Refusal) (lines : List (List ℕ)) (line : List ℕ) (decks new_decks : List NewDeck)
     (old new : List Refusal) (number : ℕ) (d : NewDeck) → number ≡ length lines + 1
-    → HasReading line None (Some d) × (d.lines ≡ []) × IsReadAs line (first_line d)
+    → (d.lines ≡ []) × IsReadAs line (First d)
     → new_decks ≡ decks ++ d ∷ [] → new ≡ old ++ refusals_at number 1 (deck_problem l set (map (λ d. d.name) decks) d)
     → AreReadFrom l set earlier lines decks old → AreReadFrom l set earlier (lines ++ line ∷ []) new_decks new
 head_taken l set earlier lines line decks new_decks old new number d at is more now are =
     let split = none_before old new _ now in
     record {
       names = ap (map (λ (d : NewDeck). d.name)) more ∙ map-append (λ (d : NewDeck). d.name) decks (d ∷ [])
-          ∙ ap (λ names. names ++ d.name ∷ []) are.names ∙ sym (names_more lines line (Some d) is.0.1);
+          ∙ ap (λ names. names ++ d.name ∷ []) are.names ∙ sym (names_more lines line (Some d) is.1.1);
       refused = grown l set earlier lines line old new _ are.refused now
-          (place_refusal l set lines line (Some d) is.0 ∙ ap (λ n. refusals_at n 1 (deck_problem l set (names_begun lines) d)) (sym at)
+          (place_refusal l set lines line (Some d) is.1 ∙ ap (λ n. refusals_at n 1 (deck_problem l set (names_begun lines) d)) (sym at)
           ∙ ap (λ names. refusals_at number 1 (deck_problem l set names d)) (sym are.names));
-      given = λ none. deck_read lines line decks new_decks d more is.1 is.2 (are.given (split none).0);
+      given = λ none. deck_read lines line decks new_decks d more is.0 is.1 (are.given (split none).0);
     }
 
 -- ---- a further line of a deck
@@ -118,11 +120,11 @@ placed_after l set [] d = refl
 placed_after l set (e ∷ front) d = refl
 
 pub card_taken : (l : LibraryView) (set : List ℕ) (earlier : List Refusal) (lines : List (List ℕ)) (line text : List ℕ) (front decks new_decks : List NewDeck)
-    (old new : List Refusal) (d e : NewDeck) → HasReading line None None × IsReadAs line (card_line text) → decks ≡ front ++ d ∷ []
-    → new_decks ≡ front ++ e ∷ [] → e ≡ record d { lines = d.lines ++ card_line text ∷ [] } → new ≡ old
+    (old new : List Refusal) (d e : NewDeck) → IsReadAs line (Further text) → decks ≡ front ++ d ∷ []
+    → new_decks ≡ front ++ e ∷ [] → e ≡ record d { lines = d.lines ++ text ∷ [] } → new ≡ old
     → AreReadFrom l set earlier lines decks old → AreReadFrom l set earlier (lines ++ line ∷ []) new_decks new
 card_taken l set earlier lines line text front decks new_decks old new d e is was now more same are =
-    let larger : NewDeck = record d { lines = d.lines ++ card_line text ∷ [] } in
+    let larger : NewDeck = record d { lines = d.lines ++ text ∷ [] } in
     let larger_now : new_decks ≡ front ++ larger ∷ [] = now ∙ ap (λ x. front ++ x ∷ []) more in
     record {
       names = ap (map (λ (d : NewDeck). d.name)) larger_now ∙ map-append (λ (d : NewDeck). d.name) front (larger ∷ [])
@@ -132,5 +134,5 @@ card_taken l set earlier lines line text front decks new_decks old new d e is wa
           (place_refusal l set lines line None is.0
           ∙ ap (λ names. refusals_at (length lines + 1) 1 (place_problem l set names None)) (sym are.names ∙ ap (map (λ (d : NewDeck). d.name)) was)
           ∙ ap (refusals_at (length lines + 1) 1) (placed_after l set front d));
-      given = λ none. line_read lines line text front decks new_decks d e was now more is.1 (are.given (sym same ∙ none));
+      given = λ none. line_read lines line text front decks new_decks d e was now more is (are.given (sym same ∙ none));
     }

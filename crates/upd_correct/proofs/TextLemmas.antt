@@ -1,27 +1,23 @@
 -- The texts of decks, and the first line of a run.
 use Rattle.upd_correct.proofs.Common.{◌≡◌, ℕ, ◌-◌, ◌<◌, List, [], ◌∷◌, map, length, take, drop, get_or, sym, ap, ◌∙◌, arith, IsTrue, ◌==◌, Result, Ok, Err}
-use Rattle.upd_correct.proofs.Common.{Decides-eqb, NewDeck, RunLine, card_line, texts_of}
+use Rattle.upd_correct.proofs.Common.{Decides-eqb, NewDeck, texts_of}
 use Rattle.std.specs.Prelude.{IfOk}
-use Rattle.std.proofs.lemmas.Simd.{map-map}
 use Rattle.upd_correct.proofs.LeftLemmas.{first_and_more}
 
 -- the first text is that of the deck's first line, and the others are those of its further lines
 pub texts_are : {X : Type 0} (now : X → List ℕ) (d : NewDeck) (texts lines : List X) (x : X) → 0 < length texts → now (get_or texts 0 x) ≡ d.first
-    → map now (take (length texts - 1) (drop 1 texts)) ≡ map now lines → map (λ t. card_line (now t)) lines ≡ d.lines → map now texts ≡ texts_of d
+    → map now (take (length texts - 1) (drop 1 texts)) ≡ map now lines → map now lines ≡ d.lines → map now texts ≡ texts_of d
 texts_are now d texts lines x some first rest view =
     ap (map now) (first_and_more texts x some) ∙ ap (λ t. t ∷ map now (take (length texts - 1) (drop 1 texts))) first
-    ∙ ap (λ ts. d.first ∷ ts) (rest ∙ sym (map-map (λ (line : RunLine). line.text) (λ t. card_line (now t)) lines)
-    ∙ ap (map (λ (line : RunLine). line.text)) view)
+    ∙ ap (λ ts. d.first ∷ ts) (rest ∙ view)
 
 -- the other way
 pub texts_split : {X : Type 0} (now : X → List ℕ) (d : NewDeck) (texts lines : List X) (x : X) → 0 < length texts
-    → map (λ t. card_line (now t)) lines ≡ d.lines → map now texts ≡ texts_of d
+    → map now lines ≡ d.lines → map now texts ≡ texts_of d
     → (now (get_or texts 0 x) ≡ d.first) × (map now (take (length texts - 1) (drop 1 texts)) ≡ map now lines)
 texts_split now d texts lines x some view is =
-    let whole = sym (ap (map now) (first_and_more texts x some)) ∙ is in (
-      ap (λ ts. get_or ts 0 []) whole,
-      ap (drop 1) whole ∙ sym (ap (map (λ (line : RunLine). line.text)) view) ∙ map-map (λ (line : RunLine). line.text) (λ t. card_line (now t)) lines,
-    )
+    let whole = sym (ap (map now) (first_and_more texts x some)) ∙ is in
+    (ap (λ ts. get_or ts 0 []) whole, ap (drop 1) whole ∙ sym view)
 
 pub feed_first : (rest : List ℕ) → 0 < length rest → IsTrue (get_or rest 0 0 == 10) → rest ≡ 10 ∷ drop 1 rest
 feed_first [] some is = absurd (omega (arith, some))

@@ -1,15 +1,11 @@
 -- The lines of an edited text, and how they are read.
-use Rattle.upd_correct.proofs.Common.{◌≡◌, ℕ, zero, suc, ◌+◌, ◌<◌, Bool, true, false, List, [], ◌∷◌, ◌++◌, length, take, drop, get_or, refl, sym, ap}
-use Rattle.upd_correct.proofs.Common.{◌∙◌, subst, arith, append-nil, append_assoc, take_more, flat_map-append, Ok, flat_map, AllByRecursion, AllZip, LineView}
-use Rattle.upd_correct.proofs.Common.{is_feed, reading, all_append, NewDeck, first_line, new_deck_lines}
-use Rattle.upd_correct.proofs.Common.{IsReadAs, card_line, lines_in, HasReading, line_problem, head_read}
+use Rattle.upd_correct.proofs.Common.{◌≡◌, ℕ, zero, suc, ◌+◌, ◌<◌, true, false, List, [], ◌∷◌, ◌++◌, length, take, drop, get_or, refl, sym, ap}
+use Rattle.upd_correct.proofs.Common.{◌∙◌, subst, arith, append-nil, append_assoc, take_more, flat_map-append, map, map-append, Ok, flat_map, AllByRecursion}
+use Rattle.upd_correct.proofs.Common.{AllZip, LineView, is_feed, reading, NewDeck, lines_in, line_problem, head_read}
 use Rattle.std.specs.Prelude.{None}
-use Rattle.upd_text.specs.Lines.{called, is_call}
 use Rattle.upd_deck.specs.Items.{ItemView, Text, Call}
-use Rattle.upd_deck.specs.Grammar.{AreLines, IsLine, Comment, Line, NoMore, LastLine, NextLine, Says}
-use Rattle.upd_deck.proofs.CallLaws.{call_read, call_said}
-use Rattle.upd_deck.proofs.GrammarRuns.{run_back}
-use Rattle.upd_correct.specs.EditedText.{begun_with}
+use Rattle.upd_correct.specs.EditedText.{First, Further, begun_with, lines_of_deck}
+use Rattle.upd_correct.specs.LineReads.{IsReadAs}
 use Rattle.upd_correct.specs.Problems.{item_problem}
 use Rattle.upd_correct.specs.Refusals.{head_by_item}
 
@@ -46,25 +42,6 @@ lines_at_feed bytes i within none feed =
     ∙ ap (λ line. line ∷ lines_in (drop (i + 1) bytes))
     (ap (λ b. take i bytes ++ b ∷ []) (sym feed) ∙ sym (take_more bytes i 0 within))
 
--- ---- a line that is read has the item that the grammar gives it
-
--- lines with their items
-abbrev pub AreSaid : List LineView → Type 0
-AreSaid lines = AllByRecursion (λ line. Says line.text line.item) lines
-
-line_said : (number start : ℕ) (line : List ℕ) (lines : List LineView) → IsLine number start line lines → AreSaid lines
-line_said number start line lines (Comment _ _ _ text few is comment) = tt
-line_said number start line lines (Line _ _ _ text item few is no_comment says) = (says, tt)
-
-lines_said : (number start : ℕ) (bytes : List ℕ) (lines : List LineView) → AreLines number start bytes lines → AreSaid lines
-lines_said number start bytes lines (NoMore _ _) = tt
-lines_said number start bytes lines (LastLine _ _ _ _ some is) = line_said number start bytes lines is
-lines_said number start bytes lines (NextLine _ _ line end rest said later is ends more) =
-    all_append (λ line. Says line.text line.item) said later (line_said number start line said is) (lines_said _ _ rest later more)
-
-read_said : (bytes : List ℕ) (lines : List LineView) → reading bytes ≡ Ok lines → AreSaid lines
-read_said bytes lines e = let read = run_back bytes lines e in lines_said 1 0 bytes lines read.spelled
-
 -- ---- the line of a card
 
 -- an item that becomes a card: text or a call
@@ -73,29 +50,10 @@ IsCardItem Text = Unit {0}
 IsCardItem (Call name) = Unit {0}
 IsCardItem _ = ⊥
 
-said_text : (text : List ℕ) → Says text Text → card_line text ≡ record { text = text; item = Text }
-said_text text says = go (is_call text) refl
-  where
-    go : (b : Bool) → is_call text ≡ b → card_line text ≡ record { text = text; item = Text }
-    go true e = let call : Text ≡ Call (called text) = call_said text Text says e in absurd (cc)
-    go false e = rw e refl
-
-said_call : (text name : List ℕ) → Says text (Call name) → card_line text ≡ record { text = text; item = Call name }
-said_call text name says = let is = call_read text name says in rw is.0 (λ i. record { text = text; item = Call (is.1 i) })
-
-pub said_card : (text : List ℕ) (item : ItemView) → IsCardItem item → Says text item → record { text = text; item = item } ≡ card_line text
-said_card text Text is says = sym (said_text text says)
-said_card text (Call name) is says = sym (said_call text name says)
-said_card text _ is says = absurd is
-
--- a line that is read as text or a call is that of a card
-pub read_card : (bytes : List ℕ) (read : LineView) → reading bytes ≡ Ok (read ∷ []) → IsCardItem read.item → IsReadAs bytes (card_line read.text)
+-- a line that is read as text or a call is a further line
+pub read_card : (bytes : List ℕ) (read : LineView) → reading bytes ≡ Ok (read ∷ []) → IsCardItem read.item → IsReadAs bytes (Further read.text)
 read_card bytes read e is =
-    let said = read_said bytes (read ∷ []) e in (read, e, said_card read.text read.item is said.0)
-
--- it has no problem alone, and begins no deck
-pub card_reading : (bytes : List ℕ) (read : LineView) → reading bytes ≡ Ok (read ∷ []) → IsCardItem read.item → HasReading bytes None None
-card_reading bytes read e is = (ap line_problem e ∙ no_problem read.item is, ap head_read e ∙ no_head read.text read.item is)
+    ((ap line_problem e ∙ no_problem read.item is, ap head_read e ∙ no_head read.text read.item is), read, e, refl)
   where
     no_problem : (item : ItemView) → IsCardItem item → item_problem item ≡ None
     no_problem Text is = refl
@@ -117,13 +75,14 @@ zip_end R (v ∷ xs) (w ∷ ys) x y zip is = (zip.0, zip_end R xs ys x y zip.1 i
 
 -- a deck begins
 pub deck_read : (lines : List (List ℕ)) (bytes : List ℕ) (decks new : List NewDeck) (d : NewDeck) → new ≡ decks ++ d ∷ [] → d.lines ≡ []
-    → IsReadAs bytes (first_line d) → AllZip IsReadAs lines (flat_map new_deck_lines decks)
-    → AllZip IsReadAs (lines ++ bytes ∷ []) (flat_map new_deck_lines new)
+    → IsReadAs bytes (First d) → AllZip IsReadAs lines (flat_map lines_of_deck decks)
+    → AllZip IsReadAs (lines ++ bytes ∷ []) (flat_map lines_of_deck new)
 deck_read lines bytes decks new d e none is zip =
     subst (AllZip IsReadAs (lines ++ bytes ∷ []))
-    (sym (ap (flat_map new_deck_lines) e ∙ flat_map-append new_deck_lines decks (d ∷ [])
-    ∙ ap (λ x. flat_map new_deck_lines decks ++ x) (append-nil (new_deck_lines d) ∙ ap (λ lines. first_line d ∷ lines) none)))
-    (zip_end IsReadAs lines (flat_map new_deck_lines decks) bytes (first_line d) zip is)
+    (sym (ap (flat_map lines_of_deck) e ∙ flat_map-append lines_of_deck decks (d ∷ [])
+    ∙ ap (λ x. flat_map lines_of_deck decks ++ x) (append-nil (lines_of_deck d)
+    ∙ ap (λ texts. First (record d { lines = [] }) ∷ map Further texts) none ∙ ap (λ texts. First (record d { lines = texts }) ∷ []) (sym none))))
+    (zip_end IsReadAs lines (flat_map lines_of_deck decks) bytes (First d) zip is)
 
 -- the last of them grows
 pub last_piece : {X A : Type 0} (f : X → List A) (done : List X) (s t : X) (more : List A) → f t ≡ f s ++ more
@@ -134,11 +93,13 @@ last_piece f done s t more e =
 
 -- the last deck gets a line
 pub line_read : (lines : List (List ℕ)) (bytes text : List ℕ) (front old new : List NewDeck) (d e : NewDeck) → old ≡ front ++ d ∷ [] → new ≡ front ++ e ∷ []
-    → e ≡ record d { lines = d.lines ++ card_line text ∷ [] } → IsReadAs bytes (card_line text) → AllZip IsReadAs lines (flat_map new_deck_lines old)
-    → AllZip IsReadAs (lines ++ bytes ∷ []) (flat_map new_deck_lines new)
+    → e ≡ record d { lines = d.lines ++ text ∷ [] } → IsReadAs bytes (Further text) → AllZip IsReadAs lines (flat_map lines_of_deck old)
+    → AllZip IsReadAs (lines ++ bytes ∷ []) (flat_map lines_of_deck new)
 line_read lines bytes text front old new d e was now grown is zip =
+    let larger : NewDeck = record d { lines = d.lines ++ text ∷ [] } in
     subst (AllZip IsReadAs (lines ++ bytes ∷ []))
-    (sym (ap (flat_map new_deck_lines) (now ∙ ap (λ x. front ++ x ∷ []) grown)
-    ∙ last_piece new_deck_lines front d (record d { lines = d.lines ++ card_line text ∷ [] }) (card_line text ∷ []) refl
-    ∙ ap (λ x. flat_map new_deck_lines x ++ card_line text ∷ []) (sym was)))
-    (zip_end IsReadAs lines (flat_map new_deck_lines old) bytes (card_line text) zip is)
+    (sym (ap (flat_map lines_of_deck) (now ∙ ap (λ x. front ++ x ∷ []) grown)
+    ∙ last_piece lines_of_deck front d larger (Further text ∷ [])
+    (ap (λ more. First (record d { lines = [] }) ∷ more) (map-append Further d.lines (text ∷ [])))
+    ∙ ap (λ x. flat_map lines_of_deck x ++ Further text ∷ []) (sym was)))
+    (zip_end IsReadAs lines (flat_map lines_of_deck old) bytes (Further text) zip is)

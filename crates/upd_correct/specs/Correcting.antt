@@ -1,17 +1,15 @@
 -- What a correction run does to a library.
-use Rattle.std.specs.Prelude.{◌≡◌, ◌<◌, ◌==◌, ◌⊎◌, not, List, [], ◌∷◌, ◌++◌, codes, length, Some, Ok}
+use Rattle.std.specs.Prelude.{◌≡◌, ◌<◌, ◌==◌, ◌⊎◌, not, List, [], ◌∷◌, ◌++◌, codes, length, Some}
 use Rattle.std.specs.List.{filter, AllByRecursion}
 use Rattle.upd_text.specs.Units.{Bytes}
 use Rattle.upd_core.specs.Edits.{next_age}
 use Rattle.upd_core.specs.Library.{LibraryView, deck_of}
 use Rattle.upd_core.specs.Serials.{Serial}
 use Rattle.upd_core.specs.Status.{live_targets}
-use Rattle.upd_deck.specs.Items.{LineView}
-use Rattle.upd_deck.specs.Reading.{reading}
-use Rattle.upd_apply.specs.Applying.{Reached, applied}
-use Rattle.upd_correct.specs.Checked.{Corrects, HasTexts}
+use Rattle.upd_correct.specs.Checked.{HasTexts, IsChecked}
 use Rattle.upd_correct.specs.Corrected.{active_cards}
-use Rattle.upd_correct.specs.EditedText.{HasDecks, NewDeck}
+use Rattle.upd_correct.specs.EditedText.{NewDeck}
+use Rattle.upd_correct.specs.LineReads.{HasDecks}
 
 -- a list without some of its elements
 pub data IsSublist {A : Type 0} : List A → List A → Type 0 where
@@ -38,15 +36,10 @@ pub record CorrectsSince (last : Serial) (taken l : LibraryView) (set text run :
   pub given : HasDecks text decks
   pub named : BeginsWithSet set run
   pub needed : AllByRecursion (HasTexts (live_targets taken) taken) decks → run ≡ []
-  pub lines : List LineView
-  pub after : Reached
-  pub read : reading run ≡ Ok lines
-  pub accepted : applied lines l ≡ Ok after
-  pub compile : after.compile ≡ []
-  pub whole : Corrects (live_targets taken) last l set run decks after.library
+  pub checked : IsChecked (live_targets taken) last l set run decks
   pub others : (deck : Serial) → deck < next_age l → AllByRecursion (λ d. deck_of d.name l ≡ Some deck → ⊥) decks
-      → active_cards deck after.library ≡ active_cards deck l
-  pub kept : AllByRecursion (KeepsCards l after.library) decks
+      → active_cards deck checked.after.library ≡ active_cards deck l
+  pub kept : AllByRecursion (KeepsCards l checked.after.library) decks
 
 -- the same of a text that was taken from the library that the run meets
 abbrev pub CorrectsTo : LibraryView → Bytes → Bytes → Bytes → Type 0

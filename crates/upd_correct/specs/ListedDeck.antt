@@ -36,49 +36,29 @@ cut_word text = if list_any is_blank text then Some (before_first is_blank text,
 abbrev pub status_read : Bytes → Option Bool
 status_read word = if bytes_eq word (codes "A") then Some true else if bytes_eq word (codes "I") then Some false else None
 
--- the card of a status, a reference and a text
-abbrev pub listed_as : Bytes → Bytes → Bytes → Option ListedView
-listed_as status field text =
-    option_and_then (λ active. option_map (λ card. record { active = active; card = card; text = text }) (card_of field)) (status_read status)
-
--- the card of a status and what follows it
-abbrev pub card_in_words : Bytes × Bytes → Option ListedView
-card_in_words words = option_and_then (λ rest. listed_as words.0 rest.0 rest.1) (cut_word words.1)
-
--- the card of a line without its LF
-abbrev pub card_in_line : Bytes → Option ListedView
-card_in_line text = option_and_then card_in_words (cut_word text)
-
 -- the card of a line: its status, its reference and its text
 abbrev pub listed_card : Bytes → Option ListedView
-listed_card line = option_and_then card_in_line (line_text line)
+listed_card line =
+    option_and_then (λ text. option_and_then (λ words. option_and_then (λ rest. option_and_then (λ active.
+    option_map (λ card. record { active = active; card = card; text = rest.1 }) (card_of rest.0))
+    (status_read words.0)) (cut_word words.1)) (cut_word text)) (line_text line)
 
 -- a name that a deck can have
 abbrev pub deck_name_read : Bytes → Option Bytes
 deck_name_read text = if is_name text && not (bytes_eq text yank_name) then Some text else None
 
--- the name before NOPROP
-abbrev pub name_before : Bytes × Bytes → Option Bytes
-name_before words = if bytes_eq words.1 (codes "NOPROP") then deck_name_read words.0 else None
-
 -- the name that follows COMDECK, and may be followed by NOPROP
 abbrev pub common_name_read : Bytes → Option Bytes
-common_name_read text = option_map_or name_before (cut_word text) (deck_name_read text)
+common_name_read text =
+    option_map_or (λ words. if bytes_eq words.1 (codes "NOPROP") then deck_name_read words.0 else None) (cut_word text) (deck_name_read text)
 
--- the name of a deck behind the word for its kind
-abbrev pub name_in_words : Bytes × Bytes → Option Bytes
-name_in_words words =
+-- the name of the deck of a head line, behind the word for its kind
+abbrev pub listed_name : Bytes → Option Bytes
+listed_name line =
+    option_and_then (λ text. option_and_then (λ words.
     if bytes_eq words.0 (codes "DECK")
     then deck_name_read words.1
-    else (if bytes_eq words.0 (codes "COMDECK") then common_name_read words.1 else None)
-
--- the name of the deck of a head line without its LF
-abbrev pub name_in_line : Bytes → Option Bytes
-name_in_line text = option_and_then name_in_words (cut_word text)
-
--- the name of the deck of a head line
-abbrev pub listed_name : Bytes → Option Bytes
-listed_name line = option_and_then name_in_line (line_text line)
+    else if bytes_eq words.0 (codes "COMDECK") then common_name_read words.1 else None) (cut_word text)) (line_text line)
 
 -- ---- the deck
 
@@ -91,13 +71,10 @@ abbrev pub with_idents : List ListedView → LibraryView → LibraryView
 with_idents [] l = l
 with_idents (c ∷ cards) l = with_idents cards (with_ident c l)
 
--- a card whose own ident switched it off where it isn't active
-abbrev pub switched : Bool → CardView → CardView
-switched active c = if active then c else entered (record { ident = c.ident; active = false }) c
-
--- a card with the serial of its ident
+-- a card with the serial of its ident, which switched it off where it isn't active
 abbrev pub aged_card : Serial → ListedView → CardView
-aged_card age c = switched c.active (new_card age c.card.number c.text [])
+aged_card age c =
+    let card = new_card age c.card.number c.text [] in if c.active then card else entered (record { ident = age; active = false }) card
 
 -- a listed card in a library that has its ident
 abbrev pub card_listed : LibraryView → ListedView → CardView

@@ -8,7 +8,8 @@ use Rattle.upd_apply.specs.Applying.{Reached}
 use Rattle.upd_correct.specs.Checked.{HasTexts, IsDeckLeft, held_serials, result_of}
 use Rattle.upd_correct.specs.Causes.{AreRefusals, refusal_at_0}
 use Rattle.upd_correct.specs.Correcting.{CorrectsTo}
-use Rattle.upd_correct.specs.EditedText.{HasDecks, NewDeck}
+use Rattle.upd_correct.specs.EditedText.{NewDeck}
+use Rattle.upd_correct.specs.LineReads.{HasDecks}
 use Rattle.upd_correct.specs.Refusals.{refusals_of}
 use Rattle.upd_correct.specs.declared.refusal.CorrectError.{CorrectError}
 use Rattle.upd_correct.specs.declared.refusal.CorrectError.TheVariants.{NoMemory, Refused}

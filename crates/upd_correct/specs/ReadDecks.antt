@@ -4,7 +4,8 @@ use Rattle.std.specs.List.{flat_map, AllZip}
 use Rattle.upd_text.specs.Units.{Bytes}
 use Rattle.upd_core.specs.Library.{LibraryView}
 use Rattle.upd_correct.specs.declared.refusal.Refusal.{Refusal}
-use Rattle.upd_correct.specs.EditedText.{IsReadAs, NewDeck, new_deck_lines}
+use Rattle.upd_correct.specs.EditedText.{NewDeck, lines_of_deck}
+use Rattle.upd_correct.specs.LineReads.{IsReadAs}
 use Rattle.upd_correct.specs.Refusals.{lines_refusals, names_begun}
 
 -- Decks are read from lines, and the refusals of the lines follow earlier ones. Without refusals the lines are those of the decks.
@@ -12,4 +13,4 @@ pub record AreReadFrom (l : LibraryView) (set : Bytes) (earlier : List Refusal) 
     (refusals : List Refusal) : Type 0 where
   pub names : map (λ d. d.name) decks ≡ names_begun lines
   pub refused : refusals ≡ earlier ++ lines_refusals l set [] lines
-  pub given : refusals ≡ [] → AllZip IsReadAs lines (flat_map new_deck_lines decks)
+  pub given : refusals ≡ [] → AllZip IsReadAs lines (flat_map lines_of_deck decks)

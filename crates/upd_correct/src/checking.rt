@@ -8,7 +8,7 @@ ghost use Rattle.upd_text.specs.declared.fault.FaultKind.TheVariants.{NoMemory};
 ghost use Rattle.upd_text.specs.Outcome.{FailsAt};
 ghost use Rattle.upd_core.specs.Status.{live_targets};
 ghost use Rattle.upd_correct.specs.Correcting.{BeginsWithSet, CorrectsSince};
-ghost use Rattle.upd_correct.specs.EditedText.{HasDecks};
+ghost use Rattle.upd_correct.specs.LineReads.{HasDecks};
 ghost use Rattle.upd_correct.specs.Checked.{HasTexts, IsChecked, result_of};
 
 use crate::checked_library::{have_texts, is_corrected};
@@ -32,8 +32,6 @@ pub(crate) fn checked(
     ensures corrects { (text : List ℕ) → HasDecks text decks.now
         → IfOk result (λ ok. IsTrue ok → CorrectsSince base.now.last base.now.taken.now base.now.library.now
         set.now text run.now) }
-    ensures whole { IfOk result (λ ok. IsTrue ok → IsChecked (live_targets base.now.taken.now) base.now.last
-        base.now.library.now set.now run.now decks.now) }
     ensures refused { IfErr result (λ fault. FailsAt fault (result_of run.now base.now.library.now)) }
 {
     if !begins_with_set(set, run) {

@@ -8,7 +8,7 @@ ghost use Rattle.upd_deck.specs.Reading.{is_feed};
 ghost use Rattle.upd_correct.specs.Causes.{IsCause, IsCauseSince, IsRunProblem, conflicts};
 ghost use Rattle.upd_correct.specs.Checked.{result_of};
 ghost use Rattle.upd_correct.specs.Correcting.{CorrectsSince, CorrectsTo};
-ghost use Rattle.upd_correct.specs.EditedText.{HasDecks};
+ghost use Rattle.upd_correct.specs.LineReads.{HasDecks};
 ghost use Rattle.upd_correct.specs.Problems.{set_problem};
 ghost use Rattle.upd_correct.specs.Refusals.{refusals_at, refusals_of};
 

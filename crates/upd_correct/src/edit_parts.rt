@@ -8,7 +8,7 @@ ghost use Rattle.upd_text.specs.Units.{Bytes};
 ghost use Rattle.upd_correct.specs.Causes.{IsCause};
 ghost use Rattle.upd_correct.specs.Checked.{HasTexts};
 ghost use Rattle.upd_correct.specs.Correcting.{CorrectsTo};
-ghost use Rattle.upd_correct.specs.EditedText.{HasDecks};
+ghost use Rattle.upd_correct.specs.LineReads.{HasDecks};
 ghost use Rattle.upd_correct.specs.Parts.{CorrectsInParts, Follows, IsLed, IsPartCause, IsPartsCause, IsReached, in_part, part_name};
 ghost use Rattle.upd_correct.specs.Parts.{part_problem, series_problem};
 ghost use Rattle.upd_correct.specs.Refusals.{refusals_of};

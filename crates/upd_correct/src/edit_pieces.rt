@@ -91,38 +91,22 @@ fn push_correction<'a>(
     correction: &Correction<'a>,
 ) -> Result<(), AllocError> {
     for segment in &correction.segments {
-        push_segment(pieces, live, correction.deck, segment)?;
+        if segment.goes {
+            push_change(pieces, segment)?;
+        } else {
+            push_kept(pieces, live, correction.deck, &segment.cards)?;
+            push_lines(pieces, true, &segment.lines)?;
+        }
     }
     Ok(())
-}
-
-/// Appends the lines of a segment.
-fn push_segment<'a>(
-    pieces: &mut Vec<Piece<'a>>,
-    live: &Live,
-    deck: Serial,
-    segment: &Segment<'a>,
-) -> Result<(), AllocError> {
-    if segment.goes {
-        return push_change(pieces, segment);
-    }
-    for card in &segment.front {
-        push_kept(pieces, live, deck, card)?;
-    }
-    push_kept(pieces, live, deck, segment.last)?;
-    push_lines(pieces, true, &segment.lines)
 }
 
 /// Appends the cards of a segment that goes and the lines that stand for it, by share: the first i of the cards come
 /// before line j where i is to the cards as j is to the lines.
 fn push_change<'a>(pieces: &mut Vec<Piece<'a>>, segment: &Segment<'a>) -> Result<(), AllocError> {
-    let count = segment.front.len().saturating_add(1);
+    let count = segment.cards.len();
     let mut next = 0;
-    for i in 0..count {
-        let card = match segment.front.get(i) {
-            Some(card) => *card,
-            None => segment.last,
-        };
+    for (i, card) in segment.cards.iter().enumerate() {
         pieces.push(Piece {
             step: Step::Delete,
             begins: i == 0,
@@ -142,19 +126,21 @@ fn lines_between<'b, 'a>(lines: &'b [&'a [u8]], first: usize, end: usize) -> &'b
     between
 }
 
-/// Appends the line of a card that stays, if it is active.
+/// Appends the lines of the active ones of cards that stay.
 fn push_kept<'a>(
     pieces: &mut Vec<Piece<'a>>,
     live: &Live,
     deck: Serial,
-    card: &'a Card,
+    cards: &[&'a Card],
 ) -> Result<(), AllocError> {
-    if live.is_active(deck, card) {
-        pieces.push(Piece {
-            step: Step::Keep,
-            begins: false,
-            text: &card.text,
-        })?;
+    for card in cards {
+        if live.is_active(deck, card) {
+            pieces.push(Piece {
+                step: Step::Keep,
+                begins: false,
+                text: &card.text,
+            })?;
+        }
     }
     Ok(())
 }

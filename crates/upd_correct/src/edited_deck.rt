@@ -3,7 +3,7 @@
 ghost use Rattle.std.specs.Prelude.{◌≡◌, ◌+◌, ◌++◌, ◌∷◌, [], List, length, IfOk, OnOk, OnErr};
 ghost use Rattle.upd_text.specs.Units.{Bytes};
 ghost use Rattle.upd_core.specs.Status.{live_of};
-ghost use Rattle.upd_correct.specs.EditedText.{card_line, lines_in};
+ghost use Rattle.upd_correct.specs.EditedText.{lines_in};
 ghost use Rattle.upd_correct.specs.LineReads.{IsTakenAs};
 ghost use Rattle.upd_correct.specs.ReadDecks.{AreReadFrom};
 
@@ -31,7 +31,6 @@ pub(crate) struct EditedDeck<'a> {
 impl<'a> Model for EditedDeck<'a> {
     ghost use Rattle.std.specs.Prelude.{map};
     ghost use Rattle.upd_correct.specs.EditedText.{NewDeck};
-    ghost use Rattle.upd_correct.specs.EditedText.{card_line};
 
     ghost Value = { NewDeck };
 
@@ -40,7 +39,7 @@ impl<'a> Model for EditedDeck<'a> {
       common = d.common;
       noprop = d.noprop;
       first = d.first.now;
-      lines = map (λ t. card_line t.now) d.lines.items;
+      lines = map (λ t. t.now) d.lines.items;
     } };
 }
 
@@ -66,7 +65,7 @@ impl<'a> EditedDeck<'a> {
 
     /// Adds a line.
     fn push_line(&mut self, text: &'a [u8]) -> Result<(), AllocError>
-        ensures { OnOk result (self.new ≡ record self.old { lines = self.old.lines ++ card_line text.now ∷ [] }) }
+        ensures { OnOk result (self.new ≡ record self.old { lines = self.old.lines ++ text.now ∷ [] }) }
     {
         self.lines.push(text)?;
         Ok(())

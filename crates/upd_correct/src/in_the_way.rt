@@ -6,7 +6,8 @@ use crate::correcting::EditBase;
 use crate::plan::Correction;
 use std::alloc::{AllocError, Global};
 use upd_core::card::card_ref;
-use upd_core::{Card, CardRef, Library, Serial, Target};
+use upd_core::ident::name_at;
+use upd_core::{Card, CardRef, Serial, Target};
 use upd_text::Name;
 
 /// The first card of a deck that is in the way, and the set that took it out of use.
@@ -30,49 +31,50 @@ pub(crate) fn cards_in_the_way(
         if let [first, ..] = base.library.cards_of(correction.deck)
             && correction.is_change()
             && !live.is_active(correction.deck, first)
+            && let Some(set) = taker_of(alloc, base, correction.deck, first)?
         {
-            push_way(&mut found, base, correction.deck, first)?;
+            found.push(InTheWay {
+                card: card_ref(base.library.idents(), first),
+                set,
+            })?;
         }
     }
     Ok(found)
 }
 
-/// Appends a card, where a set that took it out of use is found.
-fn push_way(
-    found: &mut Vec<InTheWay>,
+/// The later set that took a card out of use: that of its last entry, or the last of those whose yanks take it, or yank or
+/// bring back such a yank.
+fn taker_of(
+    alloc: Global,
     base: &EditBase,
     deck: Serial,
     card: &Card,
-) -> Result<(), AllocError> {
+) -> Result<Option<Name>, AllocError> {
     let idents = base.library.idents();
-    if let Some(set) = taker_of(base, deck, card)
-        && let Some(ident) = idents.iter().find(|ident| ident.age == set)
-    {
-        found.push(InTheWay {
-            card: card_ref(idents, card),
-            set: ident.name,
-        })?;
-    }
-    Ok(())
-}
-
-/// The later set that took a card out of use: that of the last entry, or of the last yank that takes the deck, or the
-/// ident of the card or of an entry.
-fn taker_of(base: &EditBase, deck: Serial, card: &Card) -> Option<Serial> {
-    match card.history.last() {
+    let taker = match card.history.last() {
         Some(entry) if entry.ident as usize > base.last => Some(entry.ident),
-        _ => yank_of(base.library, base.last, deck, card),
+        _ => last_taker(alloc, base, deck, card)?,
+    };
+    match taker {
+        Some(ident) if ident as usize > base.last => Ok(name_at(idents, ident)),
+        _ => Ok(None),
     }
 }
 
-/// The ident of the last yank by a later set that takes a deck, or the ident of a card or of one of its entries.
-fn yank_of(library: &Library, last: usize, deck: Serial, card: &Card) -> Option<Serial> {
-    for yank in library.yanks().iter().rev() {
-        if yank.ident as usize > last && is_taken(yank, deck, card) {
-            return Some(yank.ident);
+/// The last set whose yanks take a card, or yank such a set.
+fn last_taker(
+    alloc: Global,
+    base: &EditBase,
+    deck: Serial,
+    card: &Card,
+) -> Result<Option<Serial>, AllocError> {
+    let mut takers: Vec<Serial> = Vec::new(alloc);
+    for yank in base.library.yanks() {
+        if is_taken(yank, deck, card) || yanks_one(yank, &takers) {
+            takers.push(yank.ident)?;
         }
     }
-    None
+    Ok(takers.last().copied())
 }
 
 /// Whether a yank takes a deck, or the ident of a card or of one of its entries.
@@ -82,6 +84,11 @@ fn is_taken(yank: &Card, deck: Serial, card: &Card) -> bool {
         Target::Set(ident) => has_ident(card, *ident),
         Target::SetIn(ident, taken) => *taken == deck && has_ident(card, *ident),
     })
+}
+
+/// Whether a yank yanks one of some sets.
+fn yanks_one(yank: &Card, sets: &[Serial]) -> bool {
+    yank.targets.iter().any(|target| matches!(target, Target::Set(ident) if sets.contains(ident)))
 }
 
 /// Whether an ident is that of a card or of one of its entries.

@@ -51,6 +51,8 @@ pub enum Problem {
     PartName(usize),
     /// The run of a part would exceed a limit of the library.
     PartFull(usize),
+    /// A number that a part would have is used or settled.
+    NumberUsed(u64),
     /// The run that was made would change a deck that a later set took out of use.
     Conflict { card: CardRef, set: Name },
 }

@@ -108,9 +108,11 @@ fn push_segment(
     segment: &Segment,
 ) -> Result<(), AllocError> {
     if segment.goes {
-        push_deletion(run, idents, deletions, segment)?;
-    } else if !segment.lines.is_empty() {
-        push_directive(run, b"*INSERT ", idents, segment.last)?;
+        push_deletion(run, idents, deletions, &segment.cards)?;
+    } else if !segment.lines.is_empty()
+        && let Some(last) = segment.cards.last()
+    {
+        push_directive(run, b"*INSERT ", idents, last, last)?;
     }
     push_lines(run, &segment.lines)
 }
@@ -120,32 +122,35 @@ fn push_deletion(
     run: &mut Vec<u8>,
     idents: &[Ident],
     deletions: Deletions,
-    segment: &Segment,
+    cards: &[&Card],
 ) -> Result<(), AllocError> {
-    if deletions == Deletions::Ranges
-        && let Some(first) = segment.front.first()
-    {
-        push_parts(run, &[b"*DELETE "])?;
-        push_reference(run, card_ref(idents, first))?;
-        push_parts(run, &[b","])?;
-        push_reference(run, card_ref(idents, segment.last))?;
-        return push_parts(run, &[b"\n"]);
+    match cards {
+        [first, .., last] if deletions == Deletions::Ranges => {
+            push_directive(run, b"*DELETE ", idents, first, last)
+        }
+        _ => {
+            for card in cards {
+                push_directive(run, b"*DELETE ", idents, card, card)?;
+            }
+            Ok(())
+        }
     }
-    for card in &segment.front {
-        push_directive(run, b"*DELETE ", idents, card)?;
-    }
-    push_directive(run, b"*DELETE ", idents, segment.last)
 }
 
-/// Appends a directive that names a card.
+/// Appends a directive that names a card, or a range.
 fn push_directive(
     run: &mut Vec<u8>,
     word: &[u8],
     idents: &[Ident],
-    card: &Card,
+    first: &Card,
+    last: &Card,
 ) -> Result<(), AllocError> {
     push_parts(run, &[word])?;
-    push_reference(run, card_ref(idents, card))?;
+    push_reference(run, card_ref(idents, first))?;
+    if card_ref(idents, first) != card_ref(idents, last) {
+        push_parts(run, &[b","])?;
+        push_reference(run, card_ref(idents, last))?;
+    }
     push_parts(run, &[b"\n"])
 }
 

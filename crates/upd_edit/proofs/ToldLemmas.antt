@@ -1,17 +1,14 @@
 -- What is made of the library that a desk returned is made of the library after each journal that its store holds.
-use Rattle.upd_edit.proofs.Common.{◌≡◌, Bool, true, false, length, List, [], ◌∷◌, ℕ, Some, None, Ok, Err, sym, subst, rules, LibraryView, check_arrival}
-use Rattle.upd_edit.proofs.Common.{ap, source, tried}
-use Rattle.std.proofs.Common.{inl, inr, nat_lt, Option, Result, IsErrAnd, IsOkAnd}
+use Rattle.upd_edit.proofs.Common.{◌≡◌, Bool, true, false, length, List, ℕ, Some, None, Ok, Err, sym, subst, rules, LibraryView, check_arrival}
+use Rattle.upd_edit.proofs.Common.{ap, memory_is_lost, tried}
+use Rattle.std.proofs.Common.{inl, inr, refl, nat_lt, Option, Result, IsErrAnd, IsOkAnd}
 use Rattle.std.specs.Prelude.{◌⊎◌, unwrap_or}
 use Rattle.std.specs.Result.{result_map_both}
 use Rattle.upd_text.specs.declared.fault.Fault.{Fault}
-use Rattle.upd_text.specs.declared.fault.FaultKind.TheVariants.{BadMode, DeckUnknown, RunLong}
+use Rattle.upd_text.specs.declared.fault.FaultKind.TheVariants.{BadMode, RunLong}
 use Rattle.upd_text.specs.declared.limits.TheConstants.{MAX_RUN_BYTES}
 use Rattle.upd_text.specs.Outcome.{◌>>=◌, at_line, need, refuse_if}
-use Rattle.upd_core.specs.Library.{deck_of, ident_of}
-use Rattle.upd_core.specs.Actives.{actives_of}
-use Rattle.upd_compile.specs.File.{compile_file_of}
-use Rattle.upd_compile.specs.declared.mode.Mode.TheVariants.{Quick}
+use Rattle.upd_core.specs.Library.{ident_of}
 use Rattle.upd_compile.specs.Modes.{mode_named}
 use Rattle.upd_compile.specs.declared.mode.Mode.{Mode}
 use Rattle.upd_row_store.specs.declared.meaning.Meaning.{Ghosts}
@@ -20,9 +17,13 @@ use Rattle.upd_desk.specs.Holding.{EachHeld, IsOwed, Tells, is_lost}
 use Rattle.upd_desk.specs.Journal.{library_after}
 use Rattle.upd_desk.specs.Made.{IsMade}
 use Rattle.upd_desk.proofs.MadeLemmas.{library_made}
-use Rattle.upd_desk.proofs.QueryLemmas.{compile_keeps}
-use Rattle.upd_edit.specs.EditCauses.{EditBase, base_in, edited_in}
+use Rattle.upd_correct.specs.Causes.{AreRefusals, IsCause, IsCauseSince}
+use Rattle.upd_correct.specs.Parts.{IsPartsCause}
+use Rattle.upd_correct.specs.declared.refusal.CorrectError.{CorrectError}
+use Rattle.upd_correct.specs.declared.refusal.CorrectError.TheVariants.{NoMemory, Refused}
+use Rattle.upd_edit.specs.EditCauses.{EditBase, IsAnswerIn, IsEditLoss, IsPartsRefusal, base_in, edit_error, edited_in, failures_after_edit}
 use Rattle.upd_edit.specs.Earlier.{as_of}
+use Rattle.upd_edit.specs.declared.editing.EditError.{EditError}
 use Rattle.upd_edit.specs.declared.editing.TheConstants.{MAX_TEXT_BYTES}
 
 module _ {S : Type 0} (meaning : Ghosts S) where
@@ -58,14 +59,6 @@ pub shown_error : {X A : Type 0} (view : X → A) (result : Result X Fault) (fau
 shown_error view (Ok x) fault is = absurd is
 shown_error view (Err e) fault is = is
 
--- a source that is refused is no failure of a store
-pub source_keeps : (name : List ℕ) (l : LibraryView) (f : Fault) → source name l ≡ Err f → is_lost f.kind ≡ false
-source_keeps name l f is = by (deck_of name l) is
-  where
-    by : (o : Option ℕ) → (at_line 0 (need DeckUnknown o) >>= (λ deck. compile_file_of Quick (deck ∷ []) l l)) ≡ Err f → is_lost f.kind ≡ false
-    by (Some deck) e = compile_keeps Quick (deck ∷ []) (actives_of l) (actives_of l) f e
-    by None e = grind rules
-
 -- what the admission checks refuse of a run that is only tried is no failure of a store
 pub tried_keeps : (mode run : List ℕ) (f : Fault) → check_arrival (tried mode run) ≡ Err f → is_lost f.kind ≡ false
 tried_keeps mode run f is = by_mode (mode_named mode) is
@@ -83,19 +76,51 @@ tried_keeps mode run f is = by_mode (mode_named mode) is
     by_mode (Some m) is = by_length m (nat_lt MAX_RUN_BYTES (length run)) is
 
 -- a text that isn't too long is edited in the libraries of its time and of now
-pub fitting : (text since : List ℕ) (l : LibraryView) → nat_lt MAX_TEXT_BYTES (length text) ≡ false → edited_in text since l ≡ base_in since l
+pub fitting : (text : List ℕ) (since : Option (List ℕ)) (l : LibraryView) → nat_lt MAX_TEXT_BYTES (length text) ≡ false
+    → edited_in text since l ≡ base_in since l
 fitting text since l is = ap (λ long. at_line 0 (refuse_if long RunLong) >>= (λ _. base_in since l)) is
 
 -- what is so of a library as of an ident, of its serial and of the present library
 pub base_found : (since : List ℕ) (l taken : LibraryView) (last : ℕ) → as_of since l ≡ Ok taken → last ≡ unwrap_or (ident_of since l) 0
-    → (P : EditBase → Type 0) → P (record { taken = taken; last = last; met = l }) → IsOkAnd (base_in since l) P
+    → (P : EditBase → Type 0) → P (record { taken = taken; last = last; met = l }) → IsOkAnd (base_in (Some since) l) P
 base_found since l taken last found is P holds =
     subst (λ (r : Result LibraryView Fault). IsOkAnd (r >>= (λ (taken : LibraryView). Ok (record { taken = taken; last = unwrap_or (ident_of since l) 0; met = l }))) P)
     (sym found) (subst (λ (serial : ℕ). P (record { taken = taken; last = serial; met = l })) is holds)
 
 -- no such library
 pub base_failed : (since : List ℕ) (l : LibraryView) (fault : Fault) → IsLost fault ⊎ (as_of since l ≡ Err fault)
-    → IsLost fault ⊎ (base_in since l ≡ Err fault)
+    → IsLost fault ⊎ (base_in (Some since) l ≡ Err fault)
 base_failed since l fault (inl lost) = inl lost
 base_failed since l fault (inr failed) =
     inr (ap (λ (r : Result LibraryView Fault). r >>= (λ (taken : LibraryView). Ok (record { taken = taken; last = unwrap_or (ident_of since l) 0; met = l }))) failed)
+
+-- ---- why there is no run, as the desk tells it
+
+pub edit_kept : (A : Type 0) (error : CorrectError) (e : EditError) (failures : ℕ) → e ≡ edit_error error
+    → failures_after_edit {A = A} (Err e) failures ≡ failures
+edit_kept A error e failures is = subst (λ (e : EditError). failures_after_edit {A = A} (Err e) failures ≡ failures) (sym is) (by error)
+  where
+    by : (error : CorrectError) → failures_after_edit {A = A} (Err (edit_error error)) failures ≡ failures
+    by NoMemory = refl
+    by (Refused refusals) = refl
+
+pub edit_lost : (text : List ℕ) (error : CorrectError) → IsEditLoss text (edit_error error)
+edit_lost text NoMemory = λ short. memory_is_lost _ refl
+edit_lost text (Refused refusals) = tt
+
+pub parts_refused : (l : LibraryView) (set text : List ℕ) (error : CorrectError) → IsPartsCause l set text error → IsPartsRefusal l set text (edit_error error)
+parts_refused l set text NoMemory cause = tt
+parts_refused l set text (Refused refusals) cause = cause
+
+-- of the library as it is
+pub none_now : (l : LibraryView) (set text : List ℕ) (error : CorrectError) → IsCause l set text error
+    → IsAnswerIn (base_in None l) set text (Err (edit_error error))
+none_now l set text NoMemory cause = inl (memory_is_lost _ refl)
+none_now l set text (Refused refusals) cause = cause
+
+-- of the library as it was
+pub none_since : (since : List ℕ) (l taken : LibraryView) (last : ℕ) (set text : List ℕ) (error : CorrectError) → as_of since l ≡ Ok taken
+    → last ≡ unwrap_or (ident_of since l) 0 → IsCauseSince taken l set text error → IsAnswerIn (base_in (Some since) l) set text (Err (edit_error error))
+none_since since l taken last set text NoMemory found is cause = inl (memory_is_lost _ refl)
+none_since since l taken last set text (Refused refusals) found is cause =
+    base_found since l taken last found is (λ b. AreRefusals b.taken b.met set text refusals.items) cause

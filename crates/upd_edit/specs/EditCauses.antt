@@ -1,12 +1,16 @@
 -- Why there is no run for an edited text of a desk.
-use Rattle.std.specs.Prelude.{◌≡◌, ℕ, ◌≤◌, ◌⊎◌, nat_lt, [], length, unwrap_or, Result, Ok, Err, IsOkAnd}
+use Rattle.std.specs.Prelude.{◌≡◌, ℕ, ◌≤◌, ◌⊎◌, nat_lt, [], length, unwrap_or, Option, None, Some, Result, Ok, Err, IsOkAnd}
 use Rattle.upd_text.specs.declared.fault.Fault.{Fault}
 use Rattle.upd_text.specs.declared.fault.FaultKind.TheVariants.{RunLong}
+use Rattle.upd_text.specs.declared.fault.FaultKind.TheVariants as kinds
+use Rattle.upd_text.specs.Faults.{fault_at}
 use Rattle.upd_text.specs.Outcome.{◌>>=◌, at_line, refuse_if}
 use Rattle.upd_text.specs.Units.{Bytes}
 use Rattle.upd_core.specs.Library.{LibraryView, ident_of}
 use Rattle.upd_core.specs.Serials.{Serial}
 use Rattle.upd_row_store.specs.Keeping.{IsLost, failures_with}
+use Rattle.upd_correct.specs.declared.refusal.CorrectError.{CorrectError}
+use Rattle.upd_correct.specs.declared.refusal.CorrectError.TheVariants as error
 use Rattle.upd_correct.specs.Causes.{AreRefusals}
 use Rattle.upd_correct.specs.Correcting.{CorrectsSince}
 use Rattle.upd_correct.specs.Parts.{ArePartsRefusals}
@@ -16,10 +20,10 @@ use Rattle.upd_edit.specs.declared.editing.EditError.{EditError}
 use Rattle.upd_edit.specs.declared.editing.EditError.TheVariants.{Failed, Refused}
 use Rattle.upd_edit.specs.declared.editing.TheConstants.{MAX_TEXT_BYTES}
 
--- a text is refused with its problems
-abbrev pub IsEditCause : LibraryView → Bytes → Bytes → EditError → Type 0
-IsEditCause l set text (Failed fault) = Unit {0}
-IsEditCause l set text (Refused refusals) = AreRefusals l l set text refusals.items
+-- why there is no run, as the desk tells it
+abbrev pub edit_error : CorrectError → EditError
+edit_error error.NoMemory = Failed (fault_at kinds.NoMemory 0)
+edit_error (error.Refused refusals) = Refused refusals
 
 -- a text in parts is refused for its sets, with its problems, or for a part
 abbrev pub IsPartsRefusal : LibraryView → Bytes → Bytes → EditError → Type 0
@@ -44,14 +48,15 @@ pub record EditBase : Type 0 where
   pub last : Serial
   pub met : LibraryView
 
--- what a text is corrected by that was taken when the ident with a name was the youngest
-abbrev pub base_in : Bytes → LibraryView → Result EditBase Fault
-base_in since l = do
+-- what a text is corrected by that was taken when the ident with a name was the youngest; where none is given, from the library as it is
+abbrev pub base_in : Option Bytes → LibraryView → Result EditBase Fault
+base_in None l = Ok (record { taken = l; last = length l.idents; met = l })
+base_in (Some since) l = do
   taken ← as_of since l
   Ok (record { taken = taken; last = unwrap_or (ident_of since l) 0; met = l })
 
 -- the same; a text that is too long is refused first
-abbrev pub edited_in : Bytes → Bytes → LibraryView → Result EditBase Fault
+abbrev pub edited_in : Bytes → Option Bytes → LibraryView → Result EditBase Fault
 edited_in text since l = do
   _ ← at_line 0 (refuse_if (nat_lt MAX_TEXT_BYTES (length text)) RunLong)
   base_in since l

@@ -1,31 +1,24 @@
-//! The same of the library that a desk holds. Nothing changes, and no number is used.
-ghost use Rattle.std.specs.Prelude.{◌≡◌, ◌<◌, ◌≤◌, ◌⊎◌, ℕ, [], Err, IfErr, IfOk, Ok, OnOk, length, map};
+//! What is asked of the library that a desk holds. Nothing changes, and no number is used.
+ghost use Rattle.std.specs.Prelude.{◌≡◌, ◌<◌, ◌≤◌, ◌⊎◌, ℕ, Err, IfErr, IfOk, None, OnOk, Some, length, map};
 ghost use Rattle.std.specs.Result.{result_map_both};
 ghost use Rattle.upd_text.specs.Faults.{fault_at};
 ghost use Rattle.upd_text.specs.declared.fault.FaultKind.TheVariants.{RunLong};
-ghost use Rattle.upd_correct.specs.Correcting.{CorrectsTo};
 ghost use Rattle.upd_correct.specs.Parts.{CorrectsInParts};
-ghost use Rattle.upd_correct.specs.Refusals.{refusals_of};
 ghost use Rattle.upd_desk.specs.Arrivals.{check_arrival};
 ghost use Rattle.upd_desk.specs.Holding.{EachHeld, Tells};
 ghost use Rattle.upd_desk.specs.Journal.{library_after};
 ghost use Rattle.upd_desk.specs.Outcomes.{reply_on};
-ghost use Rattle.upd_edit.specs.ActiveText.{active_text};
-ghost use Rattle.upd_edit.specs.EditCauses.{IsAnswerIn, IsEditCause, IsEditLoss, IsPartsRefusal, base_in, edited_in, failures_after_edit};
-ghost use Rattle.upd_edit.specs.Source.{source};
+ghost use Rattle.upd_edit.specs.EditCauses.{IsAnswerIn, IsEditLoss, IsPartsRefusal, base_in, edit_error, edited_in, failures_after_edit};
 ghost use Rattle.upd_edit.specs.Trying.{tried};
 ghost use Rattle.upd_edit.specs.Warnings.{warning_list};
 ghost use Rattle.upd_row_store.specs.Keeping.{CountsFailure, IsLost, Keeps};
 
-use crate::deck_source::source;
-use crate::deck_text::active_text;
 use crate::earlier::as_of;
 use crate::warning::Warning;
 use crate::warnings::warning_list;
 use std::alloc::Global;
-use upd_compile::CompileFile;
 use upd_core::{Library, Name};
-use upd_correct::{CorrectError, Refusal, correct, correct_parts};
+use upd_correct::{CorrectError, Refusal, correct, correct_parts, correct_since};
 use upd_desk::{Arrival, Desk, Reply, reply_on};
 use upd_row_store::RowStore;
 use upd_text::limits::{MAX_CARDS, MAX_LINE_BYTES};
@@ -41,44 +34,6 @@ pub enum EditError {
     Failed(Fault),
     /// The text is refused: all its problems, in order of line.
     Refused(Vec<Refusal>),
-}
-
-/// The active cards of a deck as plain text, each with LF, the deck's first card included. DeckUnknown, at 0, where no
-/// held deck has the name; after NoMemory or Store, at 0, it can be asked again.
-pub fn text_at<S: RowStore>(
-    alloc: Global,
-    desk: &mut Desk<S>,
-    name: &Name,
-) -> Result<Vec<u8>, Fault>
-    ensures text { Tells S.Meaning (active_text name.now)
-        (result_map_both (λ text. text.items) (λ fault. fault) result) desk.old.store desk.new.store }
-    ensures same { Keeps S.Meaning desk.old.store desk.new.store }
-    ensures failed { CountsFailure S.Meaning result desk.old.store desk.new.store }
-{
-    let library = desk.library(alloc)?;
-    match active_text(alloc, &library, name) {
-        Ok(text) => Ok(text),
-        Err(fault) => Err(fault),
-    }
-}
-
-/// The compile file that has only one deck. DeckUnknown, at 0, where no held deck has the name; CallUnknown, CallDepth
-/// or CompileLong, at 0, where the walk meets one; after NoMemory or Store, at 0, it can be asked again.
-pub fn source_at<S: RowStore>(
-    alloc: Global,
-    desk: &mut Desk<S>,
-    name: &Name,
-) -> Result<CompileFile, Fault>
-    ensures file { Tells S.Meaning (source name.now)
-        (result_map_both (λ file. file) (λ fault. fault) result) desk.old.store desk.new.store }
-    ensures same { Keeps S.Meaning desk.old.store desk.new.store }
-    ensures failed { CountsFailure S.Meaning result desk.old.store desk.new.store }
-{
-    let library = desk.library(alloc)?;
-    match source(alloc, &library, name) {
-        Ok(file) => Ok(file),
-        Err(fault) => Err(fault),
-    }
 }
 
 /// The reply that a run would get now, from the site `TRY` under the number 1. BadMode or RunLong, at 0, by the
@@ -128,23 +83,20 @@ pub fn warnings_at<S: RowStore>(
     }
 }
 
-/// The run that leads decks to their edited texts under the name of a new set, as `upd_correct::correct` makes it.
-///
-/// After NoMemory or Store, at 0, it can be asked again.
+/// The run that leads decks to their edited texts under the name of a new set, as `upd_correct::correct` makes it. Where
+/// an ident is given, the texts were taken when it was the youngest: the run is checked in the library as it is, what came
+/// later is left alone, and a card that is in the way is refused. RunLong comes first, then the fault of `as_of`, at 0, and
+/// then the refusals. After NoMemory or Store, at 0, it can be asked again.
 pub fn correct_at<S: RowStore>(
     alloc: Global,
     desk: &mut Desk<S>,
+    since: Option<Name>,
     set: &[u8],
     text: &[u8],
 ) -> Result<Vec<u8>, EditError>
-    ensures corrects { EachHeld S.Meaning desk.old.store desk.new.store
-        (λ journal. IfOk result (λ run. CorrectsTo (library_after journal) set.now text.now run.items)) }
-    ensures clean { EachHeld S.Meaning desk.old.store desk.new.store
-        (λ journal. OnOk result (refusals_of (library_after journal) set.now text.now ≡ [])) }
-    ensures refused { EachHeld S.Meaning desk.old.store desk.new.store
-        (λ journal. IfErr result (IsEditCause (library_after journal) set.now text.now)) }
-    ensures lost { IfErr result (IsEditLoss text.now) }
-    ensures short { OnOk result (length text.now ≤ MAX_TEXT_BYTES) }
+    ensures answer { EachHeld S.Meaning desk.old.store desk.new.store
+        (λ journal. IsAnswerIn (edited_in text.now since (library_after journal)) set.now text.now
+        (result_map_both (λ run. run.items) (λ error. error) result)) }
     ensures long { MAX_TEXT_BYTES < length text.now
         → IfErr result (λ error. error ≡ EditError.Failed (fault_at RunLong 0)) }
     ensures same { Keeps S.Meaning desk.old.store desk.new.store }
@@ -154,43 +106,32 @@ pub fn correct_at<S: RowStore>(
         return Err(EditError::Failed(FaultKind::RunLong.without_line()));
     }
     match desk.library(alloc) {
-        Ok(library) => match correct(alloc, &library, set, text) {
-            Ok(run) => Ok(run),
-            Err(CorrectError::NoMemory) => Err(EditError::Failed(
-                FaultKind::NoMemory.without_line(),
-            )),
-            Err(CorrectError::Refused(refusals)) => Err(EditError::Refused(refusals)),
+        Ok(library) => match since {
+            None => corrected_now(alloc, &library, set, text),
+            Some(since) => corrected_since(alloc, &library, &since, set, text),
         },
         Err(fault) => Err(EditError::Failed(fault)),
     }
 }
 
-/// The run that leads decks to their edited texts, which were taken when an ident was the youngest. The run is checked in
-/// the library as it is: what came later is left alone, and a card that is in the way is refused. RunLong comes first, then
-/// the fault of `as_of`, at 0, and then the refusals. After NoMemory or Store, at 0, it can be asked again.
-pub fn correct_since<S: RowStore>(
+/// The run for a text of a library as it is that is not too long.
+fn corrected_now(
     alloc: Global,
-    desk: &mut Desk<S>,
-    since: &Name,
+    library: &Library,
     set: &[u8],
     text: &[u8],
 ) -> Result<Vec<u8>, EditError>
-    ensures answer { EachHeld S.Meaning desk.old.store desk.new.store
-        (λ journal. IsAnswerIn (edited_in text.now since.now (library_after journal)) set.now text.now
-        (result_map_both (λ run. run.items) (λ error. error) result)) }
-    ensures leaves { Keeps S.Meaning desk.old.store desk.new.store
-        × (S.failures_of desk.new.store ≡ failures_after_edit result (S.failures_of desk.old.store)) }
+    ensures answer { IsAnswerIn (base_in None library.now) set.now text.now
+        (result_map_both (λ run. run.items) (λ error. error) result) }
+    ensures kept { (failures : ℕ) → failures_after_edit result failures ≡ failures }
 {
-    if text.len() > MAX_TEXT_BYTES {
-        return Err(EditError::Failed(FaultKind::RunLong.without_line()));
-    }
-    match desk.library(alloc) {
-        Ok(library) => corrected_since(alloc, &library, since, set, text),
-        Err(fault) => Err(EditError::Failed(fault)),
+    match correct(alloc, library, set, text) {
+        Ok(run) => Ok(run),
+        Err(error) => Err(edit_error(error)),
     }
 }
 
-/// The same of a library, for a text that is not too long.
+/// The same of a library as it was.
 fn corrected_since(
     alloc: Global,
     library: &Library,
@@ -198,20 +139,26 @@ fn corrected_since(
     set: &[u8],
     text: &[u8],
 ) -> Result<Vec<u8>, EditError>
-    ensures answer { IsAnswerIn (base_in since.now library.now) set.now text.now
+    ensures answer { IsAnswerIn (base_in (Some since.now) library.now) set.now text.now
         (result_map_both (λ run. run.items) (λ error. error) result) }
     ensures kept { (failures : ℕ) → failures_after_edit result failures ≡ failures }
 {
     let last = library.ident_of(since).unwrap_or(0);
     match as_of(alloc, library, since) {
-        Ok(taken) => match upd_correct::correct_since(alloc, library, &taken, last, set, text) {
+        Ok(taken) => match correct_since(alloc, library, &taken, last, set, text) {
             Ok(run) => Ok(run),
-            Err(CorrectError::NoMemory) => Err(EditError::Failed(
-                FaultKind::NoMemory.without_line(),
-            )),
-            Err(CorrectError::Refused(refusals)) => Err(EditError::Refused(refusals)),
+            Err(error) => Err(edit_error(error)),
         },
         Err(fault) => Err(EditError::Failed(fault)),
+    }
+}
+
+fn edit_error(error: CorrectError) -> EditError
+    ensures { result ≡ edit_error error }
+{
+    match error {
+        CorrectError::NoMemory => EditError::Failed(FaultKind::NoMemory.without_line()),
+        CorrectError::Refused(refusals) => EditError::Refused(refusals),
     }
 }
 
@@ -241,10 +188,7 @@ pub fn parts_at<S: RowStore>(
     match desk.library(alloc) {
         Ok(library) => match correct_parts(alloc, &library, set, text) {
             Ok(runs) => Ok(runs),
-            Err(CorrectError::NoMemory) => Err(EditError::Failed(
-                FaultKind::NoMemory.without_line(),
-            )),
-            Err(CorrectError::Refused(refusals)) => Err(EditError::Refused(refusals)),
+            Err(error) => Err(edit_error(error)),
         },
         Err(fault) => Err(EditError::Failed(fault)),
     }

@@ -1,7 +1,7 @@
 //! What a programmer asks of a library in order to edit it: the text of a deck, its source, the run that corrects it,
 //! and what a run would do.
 //!
-//! Each call has a form over a `Library`, and a form over a desk that reads the library from its store.
+//! The calls of `editing` and `condition` ask a desk, the others a `Library`.
 #![tactic(auto)]
 
 pub mod condition;
@@ -21,10 +21,7 @@ pub use condition::arrive_since;
 pub use deck_source::source;
 pub use deck_text::active_text;
 pub use earlier::as_of;
-pub use editing::{
-    EditError, MAX_TEXT_BYTES, correct_at, correct_since, parts_at, source_at, text_at, try_at,
-    warnings_at,
-};
+pub use editing::{EditError, MAX_TEXT_BYTES, correct_at, parts_at, try_at, warnings_at};
 pub use refused::refusal_lines;
 pub use warning::{Conflict, TakingWord, Warning, WarningKind};
 pub use warning_text::write_warnings;

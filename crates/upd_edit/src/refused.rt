@@ -1,7 +1,7 @@
 //! The lines that report the refusals of an edited text.
 ghost use Rattle.std.specs.Prelude.{◌≡◌, ◌++◌, IfOk, OnOk};
 ghost use Rattle.std.specs.List.{flat_map};
-ghost use Rattle.upd_edit.specs.RefusalLines.{part_text, problem_name, problem_subject, problem_text, refusal_line, refusal_lines};
+ghost use Rattle.upd_edit.specs.RefusalLines.{part_text, problem_subject, problem_words, refusal_line, refusal_lines};
 ghost use Rattle.upd_edit.specs.RefusalLines.{refusal_place, refusal_words};
 
 use itoa::Buffer;
@@ -39,7 +39,8 @@ fn push_refusal(text: &mut Vec<u8>, refusal: &Refusal) -> Result<(), AllocError>
 fn push_place(text: &mut Vec<u8>, refusal: &Refusal) -> Result<(), AllocError>
     ensures { OnOk result (text.new.items ≡ text.old.items ++ refusal_place refusal.now) }
 {
-    text.extend_from_slice(problem_name(refusal.problem).as_bytes())?;
+    let (name, _) = problem_words(refusal.problem);
+    text.extend_from_slice(name.as_bytes())?;
     text.extend_from_slice(b" ")?;
     text.extend_from_slice(Buffer::new().format(refusal.line).as_bytes())?;
     text.extend_from_slice(b":")?;
@@ -52,35 +53,57 @@ fn push_words(text: &mut Vec<u8>, refusal: &Refusal) -> Result<(), AllocError>
     ensures { OnOk result (text.new.items ≡ text.old.items ++ refusal_words refusal.now) }
 {
     push_subject(text, refusal.problem)?;
-    text.extend_from_slice(problem_text(refusal.problem).as_bytes())?;
+    let (_, words) = problem_words(refusal.problem);
+    text.extend_from_slice(words.as_bytes())?;
     text.extend_from_slice(b"\n")
 }
 
-fn problem_name(problem: Problem) -> &'static str
-    ensures { result.now ≡ problem_name problem }
+/// The name of a problem, and what it is in words.
+fn problem_words(problem: Problem) -> (&'static str, &'static str)
+    ensures name { result.0.now ≡ (problem_words problem).0 }
+    ensures words { result.1.now ≡ (problem_words problem).1 }
 {
     match problem {
-        Problem::BadByte => "BadByte",
-        Problem::LineLong => "LineLong",
-        Problem::Comment => "Comment",
-        Problem::Directive => "Directive",
-        Problem::NoDeck => "NoDeck",
-        Problem::FirstCard => "FirstCard",
-        Problem::OutOfUse => "OutOfUse",
-        Problem::DeckTwice => "DeckTwice",
-        Problem::NameTaken => "NameTaken",
-        Problem::Reserved => "Reserved",
-        Problem::BadName => "BadName",
-        Problem::TooManyLines => "TooManyLines",
-        Problem::RunLong => "RunLong",
-        Problem::Full => "Full",
-        Problem::Unchecked => "Unchecked",
-        Problem::Conflict { .. } => "Conflict",
-        Problem::NoSet => "BadName",
-        Problem::SetLong => "BadName",
-        Problem::PartTaken(_) => "NameTaken",
-        Problem::PartName(_) => "BadName",
-        Problem::PartFull(_) => "Full",
+        Problem::BadByte => ("BadByte", "a line can't have this byte"),
+        Problem::LineLong => ("LineLong", "a line has at most 80 bytes"),
+        Problem::Comment => ("Comment", "a run would drop this line as a comment"),
+        Problem::Directive => (
+            "Directive",
+            "a run would carry this line out as a directive",
+        ),
+        Problem::NoDeck => ("NoDeck", "no deck begins before this line"),
+        Problem::FirstCard => ("FirstCard", "the first card of a deck can't be changed"),
+        Problem::OutOfUse => (
+            "OutOfUse",
+            "a yank takes this deck out of use, so no run can change its text",
+        ),
+        Problem::DeckTwice => ("DeckTwice", "this deck is in the text twice"),
+        Problem::NameTaken => ("NameTaken", "this name is in use"),
+        Problem::Reserved => ("Reserved", "the library keeps this name for itself"),
+        Problem::BadName => ("BadName", "the set's name is not a name"),
+        Problem::TooManyLines => (
+            "TooManyLines",
+            "the run would have more than 2000 lines: correct it in parts",
+        ),
+        Problem::RunLong => (
+            "RunLong",
+            "the run would have more than 65536 bytes: correct it in parts",
+        ),
+        Problem::Full => ("Full", "the library has no room for this run"),
+        Problem::Unchecked => (
+            "Unchecked",
+            "the run that was made does not lead to this text: report it",
+        ),
+        Problem::Conflict { .. } => ("Conflict", ", which came after this text"),
+        Problem::NoSet => ("BadName", "the name of the sets is empty"),
+        Problem::SetLong => (
+            "BadName",
+            "the name of the sets has at most 8 bytes, since a number follows it",
+        ),
+        Problem::PartTaken(_) => ("NameTaken", "its set's name is in use"),
+        Problem::PartName(_) => ("BadName", "its set's name is not a name"),
+        Problem::PartFull(_) => ("Full", "the library has no room for its run"),
+        Problem::NumberUsed(_) => ("NumberUsed", " is used or settled"),
     }
 }
 
@@ -93,6 +116,7 @@ fn push_subject(text: &mut Vec<u8>, problem: Problem) -> Result<(), AllocError>
         Problem::PartTaken(number) => push_part(text, number),
         Problem::PartName(number) => push_part(text, number),
         Problem::PartFull(number) => push_part(text, number),
+        Problem::NumberUsed(number) => push_number(text, number),
         _ => Ok(()),
     }
 }
@@ -115,30 +139,9 @@ fn push_part(text: &mut Vec<u8>, number: usize) -> Result<(), AllocError>
     text.extend_from_slice(b": ")
 }
 
-fn problem_text(problem: Problem) -> &'static str
-    ensures { result.now ≡ problem_text problem }
+fn push_number(text: &mut Vec<u8>, number: u64) -> Result<(), AllocError>
+    ensures { OnOk result (text.new.items ≡ text.old.items ++ problem_subject (Problem.NumberUsed number)) }
 {
-    match problem {
-        Problem::BadByte => "a line can't have this byte",
-        Problem::LineLong => "a line has at most 80 bytes",
-        Problem::Comment => "a run would drop this line as a comment",
-        Problem::Directive => "a run would carry this line out as a directive",
-        Problem::NoDeck => "no deck begins before this line",
-        Problem::FirstCard => "the first card of a deck can't be changed",
-        Problem::OutOfUse => "a yank takes this deck out of use, so no run can change its text",
-        Problem::DeckTwice => "this deck is in the text twice",
-        Problem::NameTaken => "this name is in use",
-        Problem::Reserved => "the library keeps this name for itself",
-        Problem::BadName => "the set's name is not a name",
-        Problem::TooManyLines => "the run would have more than 2000 lines: correct it in parts",
-        Problem::RunLong => "the run would have more than 65536 bytes: correct it in parts",
-        Problem::Full => "the library has no room for this run",
-        Problem::Unchecked => "the run that was made does not lead to this text: report it",
-        Problem::Conflict { .. } => ", which came after this text",
-        Problem::NoSet => "the name of the sets is empty",
-        Problem::SetLong => "the name of the sets has at most 8 bytes, since a number follows it",
-        Problem::PartTaken(_) => "its set's name is in use",
-        Problem::PartName(_) => "its set's name is not a name",
-        Problem::PartFull(_) => "the library has no room for its run",
-    }
+    text.extend_from_slice(b"number ")?;
+    text.extend_from_slice(Buffer::new().format(number).as_bytes())
 }

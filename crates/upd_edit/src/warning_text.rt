@@ -58,39 +58,21 @@ fn shown(text: &[u8]) -> &str {
 fn kind_words(alloc: Global, kind: &WarningKind) -> Result<String, AllocError> {
     match kind {
         WarningKind::Comments(count) => format!(in alloc;
-            "dropped comments: {}, the first here",
-            count
+            "dropped comments: {count}, the first here"
         ),
-        WarningKind::OffAlready { card, by } => format!(in alloc;
-            "{} is off already, by {}",
-            card, by
-        ),
-        WarningKind::Wide(count) => format!(in alloc; "the range has {} cards", count),
+        WarningKind::OffAlready { card, by } => format!(in alloc; "{card} is off already, by {by}"),
+        WarningKind::Wide(count) => format!(in alloc; "the range has {count} cards"),
         WarningKind::TakesSwitched { word, card, by } => {
-            format!(in alloc;
-                "{} switched {}, which this {} takes",
-                by,
-                card,
-                taking(*word)
-            )
+            let word = taking(*word);
+            format!(in alloc; "{by} switched {card}, which this {word} takes")
         }
         WarningKind::TakesFollowed { word, card, next } => {
-            format!(in alloc;
-                "{} follows {}, which this {} takes",
-                next,
-                card,
-                taking(*word)
-            )
+            let word = taking(*word);
+            format!(in alloc; "{next} follows {card}, which this {word} takes")
         }
         WarningKind::DeckStays { word, last, deck } => {
-            format!(in alloc;
-                "{} came after {} and stays: {} {},{}",
-                deck,
-                last,
-                taking(*word),
-                last,
-                deck
-            )
+            let word = taking(*word);
+            format!(in alloc; "{deck} came after {last} and stays: {word} {last},{deck}")
         }
         _ => String::from_str(alloc, "the run is empty: it changes nothing"),
     }
@@ -106,35 +88,25 @@ fn taking(word: TakingWord) -> &'static str {
 /// The words of a conflict.
 fn conflict_words(alloc: Global, conflict: &Conflict) -> Result<String, AllocError> {
     match conflict {
-        Conflict::Deleted { card, since } => format!(in alloc;
-            "{} came after {} and is deleted",
-            card, since
-        ),
-        Conflict::CameLater { card, since } => format!(in alloc; "{} came after {}", card, since),
+        Conflict::Deleted { card, since } => {
+            format!(in alloc; "{card} came after {since} and is deleted")
+        }
+        Conflict::CameLater { card, since } => format!(in alloc; "{card} came after {since}"),
         Conflict::Beside { card, next, since } => {
-            format!(in alloc;
-                "{} stands beside {}, which came after {}",
-                card, next, since
-            )
+            format!(in alloc; "{card} stands beside {next}, which came after {since}")
         }
         Conflict::Switched { card, by, since } => {
-            format!(in alloc;
-                "{} was switched by {}, which came after {}",
-                card, by, since
-            )
+            format!(in alloc; "{card} was switched by {by}, which came after {since}")
         }
-        Conflict::TakenOut { card, since } => format!(in alloc;
-            "{} was taken out by yanks after {}",
-            card, since
-        ),
-        Conflict::CameBack { card, since } => format!(in alloc;
-            "{} came back by yanks after {}",
-            card, since
-        ),
+        Conflict::TakenOut { card, since } => {
+            format!(in alloc; "{card} was taken out by yanks after {since}")
+        }
+        Conflict::CameBack { card, since } => {
+            format!(in alloc; "{card} came back by yanks after {since}")
+        }
         Conflict::CameAgain { since } => {
             format!(in alloc;
-                "{} was purged and came again: what its purge took out isn't seen",
-                since
+                "{since} was purged and came again: what its purge took out isn't seen"
             )
         }
     }

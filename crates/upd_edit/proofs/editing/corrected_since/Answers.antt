@@ -1,10 +1,11 @@
-use Rattle.std.proofs.Common.{inl}
-use Rattle.upd_correct.specs.Causes.{AreRefusals, IsCauseSince}
 use Rattle.upd_correct.specs.Correcting.{CorrectsSince}
 use Rattle.upd_correct.specs.Refusals.{refusals_of}
-use Rattle.upd_edit.proofs.Common.{◌≡◌, [], ◌∙◌, ap, sym, subst, rules, fails_owed, memory_is_lost, uncounted}
+use Rattle.upd_compile.proofs.Common.{Global, Vec}
+use Rattle.upd_edit.proofs.Common.{ℕ, ◌≡◌, [], Err, Some, sym, subst, rules, fails_owed, uncounted}
 use Rattle.upd_edit.specs.Earlier.{as_of}
-use Rattle.upd_edit.proofs.ToldLemmas.{base_failed, base_found}
+use Rattle.upd_edit.specs.EditCauses.{IsAnswerIn, base_in}
+use Rattle.upd_edit.specs.declared.editing.EditError.{EditError}
+use Rattle.upd_edit.proofs.ToldLemmas.{base_failed, base_found, edit_kept, none_since}
 use Rattle.upd_edit.proofs.editing.corrected_since.Goals as goal
 
 pub returns-in-Ok-correct_since-clause-answer : goal.returns-in-Ok-correct_since-clause-answer
@@ -14,14 +15,15 @@ returns-in-Ok-correct_since-clause-answer c =
     × (refusals_of b.taken c.args.set.now c.args.text.now ≡ []))
     (c.in-Ok-correct_since.ensures.corrects, c.in-Ok-correct_since.ensures.clean)
 
-pub returns-in-Err-NoMemory-clause-answer : goal.returns-in-Err-NoMemory-clause-answer
-returns-in-Err-NoMemory-clause-answer c = inl (memory_is_lost c.without_line.result c.without_line.ensures)
-
 pub returns-in-Ok-clause-answer : goal.returns-in-Ok-clause-answer
 returns-in-Ok-clause-answer c =
-    base_found c.args.since.now c.args.library.now c.in-Ok.taken c.unwrap_or-last.result c.in-Ok.ensures.library (search rules)
-    (λ b. AreRefusals b.taken b.met c.args.set.now c.args.text.now c.in-Err-Refused.refusals.items)
-    (subst (IsCauseSince c.in-Ok.taken c.args.library.now c.args.set.now c.args.text.now) c.in-Err-Refused.field-0-is c.in-Err-Refused.ensures.refused)
+    subst (λ (e : EditError). IsAnswerIn (base_in (Some c.args.since.now) c.args.library.now) c.args.set.now c.args.text.now (Err e))
+    (sym c.edit_error.ensures)
+    (none_since c.args.since.now c.args.library.now c.in-Ok.taken c.unwrap_or-last.result c.args.set.now c.args.text.now c.in-Err-correct_since.error
+    c.in-Ok.ensures.library (search rules) c.in-Err-correct_since.ensures.refused)
+
+pub returns-in-Ok-clause-kept : goal.returns-in-Ok-clause-kept
+returns-in-Ok-clause-kept c failures = edit_kept (Vec ℕ Global) c.in-Err-correct_since.error c.edit_error.result failures c.edit_error.ensures
 
 pub returns-clause-answer : goal.returns-clause-answer
 returns-clause-answer c =

@@ -1,8 +1,9 @@
-use Rattle.upd_edit.proofs.Common.{map, subst, memory_is_lost}
-use Rattle.upd_correct.specs.Parts.{CorrectsInParts, IsPartsCause}
-use Rattle.upd_edit.specs.EditCauses.{IsPartsRefusal}
-use Rattle.upd_edit.specs.declared.editing.EditError.TheVariants.{Refused}
-use Rattle.upd_edit.proofs.ToldLemmas.{held_of}
+use Rattle.upd_compile.proofs.Common.{Global, Vec}
+use Rattle.upd_edit.proofs.Common.{ℕ, ◌∙◌, map, sym, subst}
+use Rattle.upd_correct.specs.Parts.{CorrectsInParts}
+use Rattle.upd_edit.specs.EditCauses.{IsEditLoss, IsPartsRefusal}
+use Rattle.upd_edit.specs.declared.editing.EditError.{EditError}
+use Rattle.upd_edit.proofs.ToldLemmas.{edit_kept, edit_lost, held_of, parts_refused}
 use Rattle.upd_edit.proofs.editing.parts_at.Goals as goal
 
 pub returns-in-Ok-correct_parts-clause-corrects : goal.returns-in-Ok-correct_parts-clause-corrects
@@ -12,9 +13,15 @@ returns-in-Ok-correct_parts-clause-corrects g c =
 
 pub returns-in-Ok-clause-refused : goal.returns-in-Ok-clause-refused
 returns-in-Ok-clause-refused g c =
-    held_of g.S.Meaning (λ l. IsPartsRefusal l c.args.set.now c.args.text.now (Refused c.in-Err-Refused.refusals)) c.in-Ok.library
+    held_of g.S.Meaning (λ l. IsPartsRefusal l c.args.set.now c.args.text.now c.edit_error.result) c.in-Ok.library
     c.args.desk.now.store c.library.new.self.store c.in-Ok.ensures.library
-    (λ made. subst (IsPartsCause c.in-Ok.library c.args.set.now c.args.text.now) c.in-Err-Refused.field-0-is c.in-Err-Refused.ensures.refused)
+    (λ made. subst (λ (e : EditError). IsPartsRefusal c.in-Ok.library c.args.set.now c.args.text.now e) (sym c.edit_error.ensures)
+    (parts_refused c.in-Ok.library c.args.set.now c.args.text.now c.in-Err-correct_parts.error c.in-Err-correct_parts.ensures.refused))
 
-pub returns-in-Err-NoMemory-clause-lost : goal.returns-in-Err-NoMemory-clause-lost
-returns-in-Err-NoMemory-clause-lost g c short = memory_is_lost c.without_line-in-Err-NoMemory.result c.without_line-in-Err-NoMemory.ensures
+pub returns-in-Ok-clause-lost : goal.returns-in-Ok-clause-lost
+returns-in-Ok-clause-lost g c =
+    subst (λ (e : EditError). IsEditLoss c.args.text.now e) (sym c.edit_error.ensures) (edit_lost c.args.text.now c.in-Err-correct_parts.error)
+
+pub returns-in-Ok-clause-failed : goal.returns-in-Ok-clause-failed
+returns-in-Ok-clause-failed g c =
+    c.in-Ok.ensures.leaves.failed ∙ sym (edit_kept (Vec (Vec ℕ Global) Global) c.in-Err-correct_parts.error c.edit_error.result _ c.edit_error.ensures)
