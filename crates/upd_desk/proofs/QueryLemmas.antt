@@ -13,7 +13,11 @@ use Rattle.upd_compile.specs.Chosen.{chosen}
 use Rattle.upd_compile.specs.File.{event_fault, event_line, is_follow, is_line, walk_faults}
 use Rattle.upd_compile.specs.Listings.{card_lines, deck_heading, deck_line, listed_deck}
 use Rattle.upd_compile.specs.Walk.{WalkEvent, Line, Follow, Depth, Unknown}
-use Rattle.upd_desk.specs.Holding.{IsOwed, Tells}
+use Rattle.std.specs.List.{find}
+use Rattle.std.specs.Option.{option_map_or}
+use Rattle.upd_row_store.specs.Tables.{ListsRuns, is_mark_of, is_run}
+use Rattle.upd_row_store.specs.declared.store.StoredRuns.{StoredRuns}
+use Rattle.upd_desk.specs.Holding.{AreStored, EachHeld, IsOwed, Tells}
 use Rattle.upd_desk.specs.Outcomes.{IsFileFault}
 use Rattle.upd_desk.specs.Queries.{IsMiss, decks_asked}
 use Rattle.upd_desk.specs.declared.library_queries.Query.{Query}
@@ -59,6 +63,19 @@ module _ {S : Type 0} {meaning : Ghosts S} where
       by : HoldsIn shows j (image old) → IsOwed (defined (library_after j)) result
       by (rows, shown, holds) =
           subst (λ o. IsOwed o result) (same honest (library_after j) (made j) rows shown holds.library holds.states) meets
+
+  -- what was listed of tables is what is expected after the journal that they hold
+  pub stored_told : (found : StoredRuns) (old new : S) → Keeps meaning old new → (is_honest new → is_open new)
+      → (is_honest new → (rows : Rows) → shows (image old) rows → ListsRuns rows found) → EachHeld meaning old new (λ journal. AreStored journal found)
+  stored_told found old new keeps opens lists honest j held = by (held (keeps.later.was_open honest (opens honest)))
+    where
+      by : HoldsIn shows j (image old) → AreStored j found
+      by (rows, shown, holds) =
+          let listed = lists honest rows shown in
+          record {
+            runs = λ site number. ap (find (is_run site number)) listed.runs ∙ holds.runs site number;
+            marks = λ site. ap (λ marks. option_map_or (λ m. m.mark) (find (is_mark_of site) marks) 0) listed.marks ∙ holds.marks site;
+          }
 
   -- what tables showed before a call that only read them they show after it
   pub shown_there : (old mid : S) → Keeps meaning old mid → is_honest mid → is_open mid → (rows : Rows)

@@ -1,7 +1,8 @@
 -- When a store holds what a desk owes after a journal, and what a crash may have left of it.
 use Rattle.std.specs.Prelude.{◌≡◌, ℕ, ◌+◌, ◌≤◌, Bool, true, false, ◌⊎◌, if◌then◌else◌, List, [], ◌∷◌, ◌++◌, length, None, IsSome}
 use Rattle.std.specs.Prelude.{Result, Ok, Err, IfErr, IfOk, IsErr, IsErrAnd, IsOk, OnErr, OnOk}
-use Rattle.std.specs.List.{AllByRecursion, AllZip, Any}
+use Rattle.std.specs.List.{AllByRecursion, AllZip, Any, find}
+use Rattle.std.specs.Option.{option_map_or}
 use Rattle.upd_text.specs.declared.fault.Fault.{Fault}
 use Rattle.upd_text.specs.declared.fault.FaultKind.{FaultKind}
 use Rattle.upd_text.specs.declared.fault.FaultKind.TheVariants.{NoMemory, Store}
@@ -14,7 +15,8 @@ use Rattle.upd_compile.specs.declared.mode.Mode.{Mode}
 use Rattle.upd_yank.specs.Affected.{altered}
 use Rattle.upd_row_store.specs.declared.meaning.Meaning.{Ghosts}
 use Rattle.upd_row_store.specs.Keeping.{CountsFailure, IsLater, IsLost, IsShown, Keeps, OpensOk, failures_after}
-use Rattle.upd_row_store.specs.Tables.{mark_at, run_at}
+use Rattle.upd_row_store.specs.Tables.{is_mark_of, is_run, mark_at, run_at}
+use Rattle.upd_row_store.specs.declared.store.StoredRuns.{StoredRuns}
 use Rattle.upd_desk.specs.Arrivals.{ArrivalView, check_arrival, check_key}
 use Rattle.upd_desk.specs.Journal.{Event, Came, Settled, Journal, answer, kept, mark, run_of, library_after}
 use Rattle.upd_desk.specs.Made.{IsMade, work_of}
@@ -27,6 +29,11 @@ pub record Holds (journal : Journal) (rows : Rows) : Type 0 where
   pub states : ShowsStates rows (library_after journal)
   pub runs : (site : List ℕ) (number : ℕ) → run_at site number rows ≡ kept journal site number
   pub marks : (site : List ℕ) → mark_at site rows ≡ mark journal site
+
+-- Stored runs and marks are those that are expected after a journal: under each key its run, and each site's mark.
+pub record AreStored (journal : Journal) (found : StoredRuns) : Type 0 where
+  pub runs : (site : List ℕ) (number : ℕ) → find (is_run site number) found.runs.items ≡ kept journal site number
+  pub marks : (site : List ℕ) → option_map_or (λ m. m.mark) (find (is_mark_of site) found.marks.items) 0 ≡ mark journal site
 
 -- whether an arrival counts as lost after a fault: out of memory, or a failure of the store
 abbrev pub is_lost : FaultKind → Bool

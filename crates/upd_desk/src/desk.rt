@@ -6,13 +6,14 @@ ghost use Rattle.upd_desk.specs.Arrivals.{arrival_view, check_arrival, check_key
 ghost use Rattle.upd_compile.specs.File.{compile_file_of};
 ghost use Rattle.upd_compile.specs.Listings.{card_listing, deck_listing, ident_listing, yank_listing};
 ghost use Rattle.upd_compile.specs.declared.mode.Mode.TheVariants.{Full};
-ghost use Rattle.upd_desk.specs.Holding.{Arrives, EachHeld, EndsInReply, LooksAt, ReadsNeeded};
+ghost use Rattle.upd_desk.specs.Holding.{AreStored, Arrives, EachHeld, EndsInReply, LooksAt, ReadsNeeded};
 ghost use Rattle.upd_desk.specs.Holding.{AreArrivalFaults, IsArrivalFault, IsSettlementFault, IsUnadmitted};
 ghost use Rattle.upd_desk.specs.Holding.{AnswersArrival, LeavesQuery, ReadsNeededByAll, RunAll, Settles, Tells, failures_after_all, work_after_all};
 ghost use Rattle.upd_desk.specs.Queries.{IsMiss, decks_asked, listing};
 ghost use Rattle.upd_desk.specs.Journal.{is_known};
 ghost use Rattle.upd_desk.specs.Outcomes.{IsFileFault};
-ghost use Rattle.upd_row_store.specs.Keeping.{CountsFailure, IsLost, reads_after};
+ghost use Rattle.upd_row_store.specs.Keeping.{CountsFailure, FindsRows, IsLost, reads_after};
+ghost use Rattle.upd_row_store.specs.Tables.{ListsRuns};
 ghost use Rattle.upd_text.specs.Faults.{fault_at};
 ghost use Rattle.upd_text.specs.declared.fault.FaultKind.TheVariants.{CardUnknown, DeckUnknown, NoMemory};
 
@@ -25,7 +26,7 @@ use crate::settlement::settle_at;
 use std::alloc::Global;
 use upd_compile::{CompileFile, Mode, compile_active};
 use upd_core::{CardRef, Library, Name};
-use upd_row_store::RowStore;
+use upd_row_store::{RowStore, StoredRuns};
 use upd_text::Fault;
 
 /// A desk: runs arrive at it and act once each, in the order of first arrival. All that it keeps is in its store.
@@ -204,6 +205,21 @@ impl<S: RowStore> Desk<S> {
     {
         match self.store.load(alloc) {
             Ok(library) => Ok(library),
+            Err(fault) => Err(fault),
+        }
+    }
+
+    /// The stored runs in the order in which they were stored, and the settled marks. After NoMemory or Store, at 0, they
+    /// can be asked again.
+    pub fn stored_runs(&mut self, alloc: Global) -> Result<StoredRuns, Fault>
+        ensures lists { FindsRows S.Meaning result self.old.store self.new.store ListsRuns }
+        ensures stored { EachHeld S.Meaning self.old.store self.new.store (λ journal. IfOk result (AreStored journal)) }
+        ensures unread { S.decks_read_of self.new.store ≡ S.decks_read_of self.old.store }
+        ensures lost { IfErr result IsLost }
+        ensures leaves { LeavesQuery S.Meaning result self.old.store self.new.store self.old.work self.new.work }
+    {
+        match self.store.stored_runs(alloc) {
+            Ok(runs) => Ok(runs),
             Err(fault) => Err(fault),
         }
     }

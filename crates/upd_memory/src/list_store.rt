@@ -8,7 +8,7 @@ use crate::list_tables::ListTables;
 use std::alloc::Global;
 use upd_core::{Actives, CardRef, Change, Library, Serial, States};
 use upd_records::{LibraryRows, RunRow, copy_run};
-use upd_row_store::{Homes, Meaning, RowStore, reads_with};
+use upd_row_store::{Homes, Meaning, RowStore, StoredRuns, reads_with};
 use upd_text::Fault;
 
 /// Tables in memory. Only out of memory can occur.
@@ -132,6 +132,11 @@ impl RowStore for ListStore {
 
     fn mark(&mut self, _alloc: Global, site: &str) -> Result<u64, Fault> {
         Ok(self.tables.mark_of(site))
+    }
+
+    fn stored_runs(&mut self, alloc: Global) -> Result<StoredRuns, Fault> {
+        let runs = self.tables.stored_runs(alloc)?;
+        Ok(runs)
     }
 
     fn commit(&mut self, alloc: Global, changes: &[Change], run: RunRow) -> Result<(), Fault> {

@@ -13,8 +13,8 @@ ghost use Rattle.upd_records.specs.Fits.{AllFit};
 ghost use Rattle.upd_records.specs.Rows.{Rows, Shows, ShowsStates};
 ghost use Rattle.upd_row_store.specs.Asked.{AreHomes, decks_with};
 ghost use Rattle.upd_row_store.specs.Assembling.{AreRowsOf};
-ghost use Rattle.upd_row_store.specs.Tables.{AreByKey, AreRead, AreReadOf, committed, is_mark_of, is_settled, mark_at};
-ghost use Rattle.upd_row_store.specs.Tables.{run_at, settled_to};
+ghost use Rattle.upd_row_store.specs.Tables.{AreByKey, AreRead, AreReadOf, ListsRuns, committed, is_mark_of, is_settled};
+ghost use Rattle.upd_row_store.specs.Tables.{mark_at, run_at, settled_to};
 ghost use Rattle.upd_memory.specs.Mirrored.{Agrees};
 
 use crate::change_log::copy_changes;
@@ -23,8 +23,8 @@ use std::alloc::{AllocError, Global};
 use std::fmt;
 use std::marker::Model;
 use upd_core::{Actives, CardRef, Change, Library, Serial, States};
-use upd_records::{LibraryRows, MarkRow, RunRow};
-use upd_row_store::Homes;
+use upd_records::{LibraryRows, MarkRow, RunRow, copy_run};
+use upd_row_store::{Homes, StoredRuns};
 
 /// Tables, as the row changes of all commits, and the rows in memory that the changes make. A commit adds to both. The
 /// changes alone know in which order the rows of a table are.
@@ -135,6 +135,15 @@ impl ListTables {
             Some(mirror) => mirror.part(alloc, ages),
             None => self.remade(alloc)?.part(alloc, ages),
         }
+    }
+
+    /// Copies of the stored runs and of the marks, in their order; memory alone can fail.
+    pub(crate) fn stored_runs(&self, alloc: Global) -> Result<StoredRuns, AllocError>
+        ensures { IfOk result (ListsRuns self.now) }
+    {
+        let runs = copied_runs(alloc, &self.runs)?;
+        let marks = copied_marks(alloc, &self.settled)?;
+        Ok(StoredRuns { runs, marks })
     }
 
     /// The run that is kept under a key.
@@ -267,6 +276,26 @@ impl ListTables {
         drop_runs(&mut self.runs, site, number);
         Ok(number)
     }
+}
+
+fn copied_runs(alloc: Global, runs: &[RunRow]) -> Result<Vec<RunRow>, AllocError>
+    ensures { IfOk result (λ copies. copies.items ≡ runs.now) }
+{
+    let mut copies = Vec::with_capacity(alloc, runs.len())?;
+    for run in runs {
+        copies.push(copy_run(alloc, run)?)?;
+    }
+    Ok(copies)
+}
+
+fn copied_marks(alloc: Global, marks: &[MarkRow]) -> Result<Vec<MarkRow>, AllocError>
+    ensures { IfOk result (λ copies. copies.items ≡ marks.now) }
+{
+    let mut copies = Vec::with_capacity(alloc, marks.len())?;
+    for mark in marks {
+        copies.push(mark.copy(alloc)?)?;
+    }
+    Ok(copies)
 }
 
 /// Puts a mark in the place of the site's other marks; where memory runs out nothing is changed.

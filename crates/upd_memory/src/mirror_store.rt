@@ -12,7 +12,7 @@ use crate::moved_idents::commit_below;
 use std::alloc::Global;
 use upd_core::{Actives, CardRef, Change, Library, Serial, States};
 use upd_records::{LibraryRows, RunRow};
-use upd_row_store::{DeckOf, Homes, Meaning, RowStore, reads_with};
+use upd_row_store::{DeckOf, Homes, Meaning, RowStore, StoredRuns, reads_with};
 use upd_text::{Fault, FaultKind};
 
 /// A store that answers reads from its rows in memory, and writes to the store below.
@@ -349,6 +349,20 @@ impl<S: RowStore> RowStore for MirrorStore<S> {
             Ok(mark) => {
                 self.is_live = true;
                 Ok(mark)
+            }
+            Err(fault) => {
+                self.is_live = false;
+                self.failures = failures_with(self.failures, &fault);
+                Err(fault)
+            }
+        }
+    }
+
+    fn stored_runs(&mut self, alloc: Global) -> Result<StoredRuns, Fault> {
+        match self.inner.stored_runs(alloc) {
+            Ok(runs) => {
+                self.is_live = true;
+                Ok(runs)
             }
             Err(fault) => {
                 self.is_live = false;

@@ -1,5 +1,5 @@
 -- What the tables keep of runs, settled marks and statuses, and what a commit and a settlement make of the tables.
-use Rattle.std.specs.Prelude.{ℕ, ◌==◌, nat_le, Bool, not, ◌&&◌, if◌then◌else◌, List, [], ◌∷◌, ◌++◌, map, Option}
+use Rattle.std.specs.Prelude.{◌≡◌, ℕ, ◌==◌, nat_le, Bool, not, ◌&&◌, if◌then◌else◌, List, [], ◌∷◌, ◌++◌, map, Option}
 use Rattle.std.specs.Option.{option_map_or}
 use Rattle.std.specs.Str.{bytes_eq}
 use Rattle.std.specs.List.{find, filter}
@@ -12,6 +12,7 @@ use Rattle.upd_core.specs.declared.states.States.{States}
 use Rattle.upd_core.specs.declared.target.Target.{Target}
 use Rattle.upd_records.specs.Rows.{CountRow, IsSame, MarkRow, Rows, RunView, StateRow}
 use Rattle.upd_records.specs.Changes.{ChangeView, done_all}
+use Rattle.upd_row_store.specs.declared.store.StoredRuns.{StoredRuns}
 use Rattle.upd_row_store.specs.Asked.{is_asked}
 
 -- whether a run is the one of a key, that is of a site and a number
@@ -51,6 +52,11 @@ settled_to site n rows =
       runs = filter (λ r. not (is_settled site n r)) rows.runs;
       settled = filter (λ m. not (is_mark_of site m)) rows.settled ++ record { site = site; mark = n } ∷ [];
     }
+
+-- Stored runs and settled marks that were read from tables: all of them, each in the order of its table.
+pub record ListsRuns (rows : Rows) (found : StoredRuns) : Type 0 where
+  pub runs : found.runs.items ≡ rows.runs
+  pub marks : found.marks.items ≡ rows.settled
 
 -- a card with its status, and a target with its count
 abbrev pub state_pair : StateRow → CardRef × Bool

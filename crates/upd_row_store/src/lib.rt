@@ -19,4 +19,4 @@ pub use assemble::{
     held_ages,
 };
 pub use meaning::Meaning;
-pub use store::RowStore;
+pub use store::{RowStore, StoredRuns};

@@ -9,15 +9,23 @@ ghost use Rattle.upd_row_store.specs.Assembling.{AreRowsOf};
 ghost use Rattle.upd_row_store.specs.Keeping.{FindsLibrary, FindsRows, IsShown, LeavesDeck, LeavesLoad, LeavesRead, LeavesWrite};
 ghost use Rattle.upd_row_store.specs.Movable.{AllMoveListed};
 ghost use Rattle.upd_core.specs.Parts.{part_of};
-ghost use Rattle.upd_row_store.specs.Tables.{AreByKey, AreRead, AreReadOf, committed, mark_at, run_at, settled_to};
+ghost use Rattle.upd_row_store.specs.Tables.{AreByKey, AreRead, AreReadOf, ListsRuns, committed, mark_at, run_at};
+ghost use Rattle.upd_row_store.specs.Tables.{settled_to};
 
 use crate::asked::{DeckOf, Homes, states_among};
 use crate::meaning::Meaning;
 use std::alloc::Global;
 use std::collections::BTreeMap;
 use upd_core::{Actives, CardRef, Change, Library, Name, Serial, States};
-use upd_records::{LibraryRows, RunRow};
+use upd_records::{LibraryRows, MarkRow, RunRow};
 use upd_text::{Fault, FaultKind};
+
+/// Stored runs and settled marks.
+#[derive(Debug, Drop)]
+pub struct StoredRuns {
+    pub runs: Vec<RunRow>,
+    pub marks: Vec<MarkRow>,
+}
 
 /// Tables of rows that are changed by commits, each of which is all or nothing, also in a crash.
 ///
@@ -117,6 +125,15 @@ pub trait RowStore: Meaning {
     fn mark(&mut self, alloc: Global, site: &str) -> Result<u64, Fault>
         ensures found { FindsRows Self.Meaning result self.old self.new (λ rows found. found ≡ mark_at site.now rows) }
         ensures leaves { LeavesRead Self.Meaning result self.old self.new };
+
+    /// The stored runs in the order in which they were stored, and the settled marks. A store without this call answers
+    /// NoMemory.
+    fn stored_runs(&mut self, _: Global) -> Result<StoredRuns, Fault>
+        ensures found { FindsRows Self.Meaning result self.old self.new ListsRuns }
+        ensures leaves { LeavesRead Self.Meaning result self.old self.new }
+    {
+        Err(FaultKind::NoMemory.without_line())
+    }
 
     /// Carries out row changes that fit the tables, and stores their run, in one transaction. No clause covers others.
     fn commit(&mut self, alloc: Global, changes: &[Change], run: RunRow) -> Result<(), Fault>

@@ -76,6 +76,10 @@ pub all_marks : Reads sql.ALL_MARKS.now 16 [] two marks_order
 unfolding understood everything
 all_marks = record { names = _; is = refl; plain = (refl, refl); unlisted = refl }
 
+pub marks_in_turn : Reads sql.MARKS_IN_TURN.now 16 [] two row_order
+unfolding understood everything
+marks_in_turn = record { names = _; is = refl; plain = (refl, refl); unlisted = refl }
+
 -- ---- a site's run and mark
 
 abbrev pub run_of_key_tests : List Term

@@ -16,7 +16,7 @@ use Rattle.upd_sql.specs.Encoded.{kept_state, kept_count}
 use Rattle.upd_sql.proofs.Listed.{lists, ordered_as}
 use Rattle.upd_sql.proofs.Bare.{is_bare}
 use Rattle.upd_sql.proofs.ReadTexts.{Reads, two, three, four, five, six, runs_order, marks_order}
-use Rattle.upd_sql.proofs.ReadTexts.{all_idents, all_cards, all_entries, all_targets, all_states, all_counts, all_runs, all_marks, runs_in_turn}
+use Rattle.upd_sql.proofs.ReadTexts.{all_idents, all_cards, all_entries, all_targets, all_states, all_counts, all_runs, all_marks, runs_in_turn, marks_in_turn}
 use Rattle.upd_sql.proofs.Typed.{reads_exactly}
 use Rattle.upd_sql.specs.declared.texts.TheConstants as sql
 
@@ -115,6 +115,11 @@ module _ (old new : State) (it : Rows) (h : HoldsTables it old.now) (rows : List
   runs_turned shown =
       reads_exactly 5 10 refl run_row (stored it) it.runs refl _ [] old new rows shown h [] six runs_in_turn refl refl (λ _. true) (λ x. refl) (λ x. refl)
       ∙ ap (map run_row) (all_pass it.runs)
+
+  pub marks_turned : Shown sql.MARKS_IN_TURN.now [] old new rows → rows ≡ map mark_row it.settled
+  marks_turned shown =
+      reads_exactly 8 16 refl mark_row (stored it) it.settled refl _ [] old new rows shown h [] two marks_in_turn refl refl (λ _. true) (λ x. refl) (λ x. refl)
+      ∙ ap (map mark_row) (all_pass it.settled)
 
   pub marks_listed : Answers sql.ALL_MARKS.now mark_row by_site it.settled
   marks_listed = whole 8 16 refl mark_row it.settled refl _ two marks_order by_site all_marks refl refl (λ x. refl) marks_up

@@ -28,6 +28,8 @@ pub use record::ILLEGIBLE;
 pub use row_writes::carry_out_all;
 pub use schema::{has_first_tables, is_library_schema, is_no_schema};
 pub use settle::settle_site;
-pub use stored::{stored_active, stored_library_rows, stored_mark, stored_run, stored_states};
+pub use stored::{
+    stored_active, stored_library_rows, stored_mark, stored_run, stored_runs, stored_states,
+};
 pub use texts::{CREATE_COUNTS, CREATE_SETTLED, CREATE_STATES};
 pub use whole::{ActiveRows, library_rows_in, marks_in, rows_of, runs_in, runs_in_turn};

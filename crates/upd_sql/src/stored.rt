@@ -2,7 +2,7 @@
 //! whose tables or rows are not a library's. None of these calls changes a table.
 ghost use Rattle.std.specs.Prelude.{◌≡◌, false};
 ghost use Rattle.sqlite.specs.Held.{state};
-ghost use Rattle.upd_row_store.specs.Tables.{AreByKey, AreRead, mark_at, run_at};
+ghost use Rattle.upd_row_store.specs.Tables.{AreByKey, AreRead, ListsRuns, mark_at, run_at};
 ghost use Rattle.upd_sql.specs.Commits.{ReadsTables};
 ghost use Rattle.upd_row_store.specs.Assembling.{AreRowsOf};
 ghost use Rattle.upd_sql.specs.Part.{AreActiveRows};
@@ -13,6 +13,7 @@ use sqlite::{Connection, Error};
 use std::alloc::Global;
 use upd_core::States;
 use upd_records::{LibraryRows, RunRow};
+use upd_row_store::StoredRuns;
 use upd_sqlite::{Rising, begin};
 
 /// The number up to which a site has settled, 0 where it never did.
@@ -42,6 +43,18 @@ pub fn stored_run<S: Rising>(
     let run = reads::run_in(&mut tx, alloc, site, number)?;
     tx.commit()?;
     Ok(run)
+}
+
+/// The stored runs and the settled marks, each in the order of its table.
+pub fn stored_runs<S: Rising>(conn: &mut Connection<S>, alloc: Global) -> Result<StoredRuns, Error>
+    requires { conn.old.in_transaction ≡ false }
+    ensures { ReadsTables ListsRuns
+        (state S.Store conn.old) (state S.Store conn.new) result }
+{
+    let mut tx = begin(conn);
+    let found = whole::stored_runs_in(&mut tx, alloc)?;
+    tx.commit()?;
+    Ok(found)
 }
 
 /// The rows of the four tables that a library is made of.

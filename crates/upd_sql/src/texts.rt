@@ -116,6 +116,8 @@ pub(crate) const RUNS_IN_TURN: &str =
 
 pub(crate) const ALL_MARKS: &str = "SELECT site, mark FROM settled ORDER BY site";
 
+pub(crate) const MARKS_IN_TURN: &str = "SELECT site, mark FROM settled ORDER BY rowid";
+
 pub(crate) const RUN_OF_KEY: &str =
     "SELECT site, num, mode, body, accepted, reply FROM runs WHERE site = ?1 AND num = ?2 ORDER BY rowid";
 

@@ -9,7 +9,7 @@ ghost use Rattle.sqlite.specs.Values.{bound};
 ghost use Rattle.std.specs.declared.cmp.Ordering.{Ordering};
 ghost use Rattle.upd_records.specs.Rows.{Rows};
 ghost use Rattle.upd_row_store.specs.Assembling.{AreRowsOf};
-ghost use Rattle.upd_row_store.specs.Tables.{AreByKey, AreRead, count_pair, state_pair};
+ghost use Rattle.upd_row_store.specs.Tables.{AreByKey, AreRead, ListsRuns, count_pair, state_pair};
 ghost use Rattle.upd_sql.specs.Commits.{Inside, IsAnswered, Looks};
 ghost use Rattle.upd_sql.specs.LibraryTables.{HoldsTables};
 ghost use Rattle.upd_sql.specs.Listed.{AreInOrder, by_key, by_site, in_any_order};
@@ -23,7 +23,7 @@ use sqlite::{Alter, Error, Row, Transaction};
 use std::alloc::Global;
 use upd_core::{CardRef, Ident, States, Target};
 use upd_records::{CardRow, EntryRow, LibraryRows, MarkRow, RunRow, StateRow, TargetRow};
-use upd_row_store::states_by_key;
+use upd_row_store::{StoredRuns, states_by_key};
 use upd_sqlite::ask;
 
 /// All idents, cards and statuses.
@@ -137,6 +137,29 @@ pub fn marks_in<S: Alter>(tx: &mut Transaction<'_, S>, alloc: Global) -> Result<
     ensures { Inside (state S.Store) (Looks (λ it found. AreInOrder by_site it.settled found.items)) tx.old.conn tx.new.conn result }
 {
     all_of(tx, alloc, texts::ALL_MARKS)
+}
+
+/// The settled marks in the order of their table, inside a transaction.
+fn marks_in_turn<S: Alter>(
+    tx: &mut Transaction<'_, S>,
+    alloc: Global,
+) -> Result<Vec<MarkRow>, Error>
+    ensures { Inside (state S.Store) (Looks (λ it found. found.items ≡ it.settled)) tx.old.conn tx.new.conn result }
+{
+    let rows = rows_of(tx, texts::MARKS_IN_TURN, &[])?;
+    each(alloc, &rows)
+}
+
+/// The stored runs and the settled marks, each in the order of its table, inside a transaction.
+pub(crate) fn stored_runs_in<S: Alter>(
+    tx: &mut Transaction<'_, S>,
+    alloc: Global,
+) -> Result<StoredRuns, Error>
+    ensures { Inside (state S.Store) (Looks ListsRuns) tx.old.conn tx.new.conn result }
+{
+    let runs = runs_in_turn(tx, alloc)?;
+    let marks = marks_in_turn(tx, alloc)?;
+    Ok(StoredRuns { runs, marks })
 }
 
 /// The rows of the four tables that a library is made of, inside a transaction.

@@ -13,6 +13,8 @@ use Rattle.upd_core.specs.Library.{CardView, DeckView, LibraryView, all_decks, h
 use Rattle.upd_core.specs.Serials.{Serial}
 use Rattle.upd_core.specs.Status.{is_active, is_good, live_targets}
 use Rattle.upd_compile.specs.Listings.{card_name, deck_name, kind_word, line_of, target_line, word_if}
+use Rattle.upd_records.specs.Rows.{RunView}
+use Rattle.upd_views.specs.IntroducingRun.{introducer_line}
 use Rattle.upd_views.specs.Printed.{printed_text}
 
 -- the head line: the ident's name, its kind and NOPROP
@@ -75,8 +77,8 @@ report i l =
     ident_heading i ++ flat_map (yanked_lines l.idents i.age) (filter (is_good (live_targets l) 0) l.yanks)
     ++ flat_map (deck_part l.idents (live_targets l) i.age) (all_decks l)
 
--- the report of the held ident with a name
-abbrev pub show : Bytes → LibraryView → Result Bytes Fault
-show name l = do
+-- the report of the held ident with a name, and the run that introduced it, of these stored runs
+abbrev pub show : Bytes → List RunView → LibraryView → Result Bytes Fault
+show name runs l = do
   i ← at_line 0 (need IdentUnknown (held_named name l.idents))
-  Ok (report i l)
+  Ok (report i l ++ introducer_line name runs l.idents)

@@ -2,6 +2,7 @@ pub mod Printed
 pub mod RunLines
 pub mod SiteLines
 pub mod Blame
+pub mod IntroducingRun
 pub mod IdentReport
 pub mod FaultTexts
 pub mod Escaped

@@ -1,6 +1,10 @@
 -- One line for each stored run: its site, number and mode, and what its reply says.
-use Rattle.std.specs.Prelude.{ℕ, Bool, if◌then◌else◌, List, [], ◌∷◌, ◌++◌, ◌==◌, codes, decimal, drop, get_or, Option, None, option_and_then}
-use Rattle.std.specs.List.{flat_map, slice_split}
+use Rattle.std.specs.Prelude.{◌≡◌, ℕ, Bool, if◌then◌else◌, List, [], ◌∷◌, ◌++◌, ◌==◌, ◌-◌, ◌||◌, codes, decimal, drop, get_or, length, take, Option, None, option_and_then}
+use Rattle.std.specs.Prelude.{IsPermutation, IsSorted}
+use Rattle.std.specs.Cmp.Lexicographic.{slice_cmp}
+use Rattle.std.specs.Ordering.{nat_cmp, ordering_then}
+use Rattle.std.specs.declared.cmp.Ordering.{Ordering}
+use Rattle.std.specs.List.{flat_map, slice_split, suffix_len}
 use Rattle.std.specs.Option.{option_map_or}
 use Rattle.std.specs.Str.{is_utf8}
 use Rattle.serde_json.specs.Data.{Data, null, boolean, number, string, array, object, Items, no_items, item}
@@ -44,9 +48,13 @@ outcome accepted value = if accepted then codes " accepted" ++ idents_said value
 abbrev pub first_line : List ℕ → List ℕ
 first_line run = get_or (slice_split (λ b. b == 10) run) 0 []
 
--- the message of a run: its first line where that is a comment, without the `*/`
+-- a text without the blanks and carriage returns at its end
+abbrev pub trimmed : List ℕ → List ℕ
+trimmed text = take (length text - suffix_len (λ b. (b == 32) || (b == 13)) text) text
+
+-- the message of a run: its first line where that is a comment, without the `*/` and the blanks at its end
 abbrev pub message : List ℕ → List ℕ
-message run = if is_comment (first_line run) then codes " #" ++ printed_field (drop 2 (first_line run)) else []
+message run = if is_comment (first_line run) then codes " #" ++ printed_field (trimmed (drop 2 (first_line run))) else []
 
 -- the site of a run, its number and its mode
 abbrev pub key_words : RunView → List ℕ
@@ -59,3 +67,11 @@ run_line r = key_words r ++ outcome r.accepted (said r.reply) ++ message r.bytes
 -- the lines of runs in order
 abbrev pub run_lines : List RunView → List ℕ
 run_lines runs = flat_map run_line runs
+
+-- runs by site, then by number
+abbrev pub by_key : RunView → RunView → Ordering
+by_key a b = ordering_then (slice_cmp nat_cmp a.site b.site) (nat_cmp a.number b.number)
+
+-- a text has the lines of all these runs, by site and then by number
+abbrev pub IsRunList : List RunView → List ℕ → Type 0
+IsRunList runs text = (all : List RunView) × IsPermutation runs all × IsSorted by_key all × (text ≡ run_lines all)

@@ -12,20 +12,30 @@ ghost use Rattle.upd_text.specs.Outcome.{GivesAt};
 ghost use Rattle.upd_text.specs.declared.fault.FaultKind.TheVariants.{NoMemory};
 
 use crate::appending::{push_card_line, push_deck_line, status_letter};
+use crate::introducing_run::push_introducer;
 use std::alloc::{AllocError, Global};
 use upd_compile::listings::{push_card_name, push_target, push_targets};
 use upd_compile::text_parts::push_parts;
 use upd_core::{Card, Deck, Entry, Ident, Kind, Library, Live, Name, Serial, Target};
+use upd_records::RunRow;
 use upd_text::{Fault, FaultKind};
 
 /// What the held ident with a name did: its kind, the live yanks that take it, and deck by deck the cards that it
-/// added and the cards that it switched. IdentUnknown, at 0, where no held ident has the name.
-pub fn show(alloc: Global, library: &Library, name: &Name) -> Result<Vec<u8>, Fault>
-    ensures { GivesAt (λ text. text.items) result (show name.now library.now) }
+/// added and the cards that it switched; and the run that introduced it, where it is one of these stored runs and has a
+/// message. IdentUnknown, at 0, where no held ident has the name.
+pub fn show(
+    alloc: Global,
+    library: &Library,
+    runs: &[RunRow],
+    name: &Name,
+) -> Result<Vec<u8>, Fault>
+    ensures { GivesAt (λ text. text.items) result (show name.now runs.now library.now) }
 {
     let unknown = FaultKind::IdentUnknown.without_line();
     let ident = library.held(name).ok_or(unknown)?;
-    report(alloc, library, ident)
+    let mut text = report(alloc, library, ident)?;
+    push_introducer(&mut text, runs, library.idents(), name)?;
+    Ok(text)
 }
 
 /// The report of an ident. The only error is NoMemory.

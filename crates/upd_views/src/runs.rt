@@ -1,9 +1,9 @@
 //! One line for each stored run.
 
-ghost use Rattle.std.specs.Prelude.{◌≡◌, ◌++◌, IfOk, OnOk, option_map};
+ghost use Rattle.std.specs.Prelude.{◌≡◌, ◌++◌, IfOk, IsPermutation, IsSorted, OnOk, option_map};
 ghost use Rattle.serde_json.specs.View.{items_view, view};
-ghost use Rattle.upd_views.specs.RunLines.{first_line, idents_said, key_words, message, outcome, refusal_said, run_line};
-ghost use Rattle.upd_views.specs.RunLines.{run_lines, said, word_of, words_of};
+ghost use Rattle.upd_views.specs.RunLines.{IsRunList, by_key, first_line, idents_said, key_words, message, outcome};
+ghost use Rattle.upd_views.specs.RunLines.{refusal_said, run_line, run_lines, said, trimmed, word_of, words_of};
 
 use crate::printing::push_field;
 use itoa::Buffer;
@@ -12,6 +12,27 @@ use std::alloc::{AllocError, Global};
 use upd_compile::text_parts::push_parts;
 use upd_records::{RunRow, mode_word};
 use upd_text::line::{is_comment, split_once};
+
+/// The lines of runs by site and number, as in `run_lines`.
+pub fn run_list(alloc: Global, runs: Vec<RunRow>) -> Result<Vec<u8>, AllocError>
+    ensures { IfOk result (λ text. IsRunList runs.items text.items) }
+{
+    let runs = by_key(runs);
+    run_lines(alloc, &runs)
+}
+
+fn by_key(runs: Vec<RunRow>) -> Vec<RunRow>
+    ensures permutation { IsPermutation runs.items result.items }
+    ensures sorted { IsSorted by_key result.items }
+{
+    let mut runs = runs;
+    runs.sort_unstable_by(|a, b| a
+        .site
+        .as_str()
+        .cmp(b.site.as_str())
+        .then(a.number.cmp(&b.number)));
+    runs
+}
 
 /// The lines of runs, in the order in which they come: site, number, mode, and `accepted` with the idents that the run
 /// introduced, or the name of its refusal; and its message, a comment on its first line.
@@ -35,7 +56,7 @@ fn push_run(alloc: Global, text: &mut Vec<u8>, run: &RunRow) -> Result<(), Alloc
     text.extend_from_slice(b"\n")
 }
 
-fn push_key(text: &mut Vec<u8>, run: &RunRow) -> Result<(), AllocError>
+pub(crate) fn push_key(text: &mut Vec<u8>, run: &RunRow) -> Result<(), AllocError>
     ensures { OnOk result (text.new.items ≡ text.old.items ++ key_words run.now) }
 {
     push_field(text, run.site.as_bytes())?;
@@ -45,7 +66,7 @@ fn push_key(text: &mut Vec<u8>, run: &RunRow) -> Result<(), AllocError>
 }
 
 /// The value of a reply, where it is one.
-fn said(alloc: Global, reply: &[u8]) -> Result<Option<Value>, AllocError>
+pub(crate) fn said(alloc: Global, reply: &[u8]) -> Result<Option<Value>, AllocError>
     ensures { IfOk result (λ value. option_map (λ v. view v) value ≡ said reply.now) }
 {
     match Value::from_slice(alloc, reply) {
@@ -116,19 +137,30 @@ fn push_word(text: &mut Vec<u8>, value: &Value) -> Result<(), AllocError>
     }
 }
 
-fn push_message(text: &mut Vec<u8>, run: &[u8]) -> Result<(), AllocError>
+pub(crate) fn push_message(text: &mut Vec<u8>, run: &[u8]) -> Result<(), AllocError>
     ensures { OnOk result (text.new.items ≡ text.old.items ++ message run.now) }
 {
     let line = first_line(run);
     if is_comment(line) {
         text.extend_from_slice(b" #")?;
-        push_field(text, &line[2..])
+        push_field(text, trimmed(&line[2..]))
     } else {
         Ok(())
     }
 }
 
-fn first_line(run: &[u8]) -> &[u8]
+/// A text without the blanks and carriage returns at its end, which are no part of a line.
+fn trimmed(text: &[u8]) -> &[u8]
+    ensures { result.now ≡ trimmed text.now }
+{
+    let mut rest = text;
+    while let [before @ .., b' ' | b'\r'] = rest {
+        rest = before;
+    }
+    rest
+}
+
+pub(crate) fn first_line(run: &[u8]) -> &[u8]
     ensures { result.now ≡ first_line run.now }
 {
     match split_once(run, b'\n') {
