@@ -1,5 +1,5 @@
 -- What one open finds, for the store over the trees and for the one through SQL.
-use Rattle.std.specs.Prelude.{◌≡◌, ◌≤◌, IsTrue}
+use Rattle.std.specs.Prelude.{◌≡◌, ◌≤◌, ◌⊎◌, ℕ, List, IsSome, IsTrue}
 use Rattle.sqlite_catalog.specs.Listing.{Lists}
 use Rattle.sqlite_trees.specs.Objects.{catalog_tree}
 use Rattle.sqlite_trees.specs.View.{View, doubt, IsClean}
@@ -8,9 +8,28 @@ use Rattle.sqlite_wal.specs.Recovery.{Image}
 use Rattle.sqlite.specs.Held.{Held, state}
 use Rattle.sqlite.specs.State.{HasCleanDisk}
 use Rattle.sqlite.specs.Steps.{IsFresh}
+use Rattle.upd_records.specs.Rows.{Rows}
+use Rattle.upd_row_store.specs.Tables.{mark_at, run_at}
 use Rattle.upd_sql.specs.Schema.{library_schema}
+use Rattle.upd_store.specs.declared.one_open.Purpose.{Purpose}
+use Rattle.upd_store.specs.declared.one_open.Purpose.TheVariants.{Reading, Run, Writing}
 use Rattle.upd_store.specs.TreeOpening.{FindsTrees}
 use Rattle.upd_store.specs.TreeReads.{IsLibrary}
+
+-- the reply to a run of this key is stored, or settled
+abbrev pub IsAnswered : List ℕ → ℕ → Rows → Type 0
+IsAnswered site number rows = IsSome (run_at site number rows) ⊎ (number ≤ mark_at site rows)
+
+-- the trees of this library serve a purpose: a question, or a run that is a repeat
+abbrev pub IsServed : Purpose → Rows → Type 0
+IsServed Reading rows = Unit {0}
+IsServed (Run site number) rows = IsAnswered site.now number rows
+IsServed Writing rows = ⊥
+
+-- a purpose that trees may serve
+abbrev pub IsBelow : Purpose → Type 0
+IsBelow Writing = ⊥
+IsBelow _ = Unit {0}
 
 -- A store that was just opened. If its trees list the library's schema, they are the database that the files held.
 pub record MayFind (image : Image) (v : View) : Type 0 where

@@ -10,7 +10,6 @@ use Rattle.sqlite_catalog.specs.Listing.{Lists}
 use Rattle.upd_records.specs.Rows.{Rows}
 use Rattle.upd_records.specs.declared.rows.LibraryRows.{LibraryRows}
 use Rattle.upd_sqlite.specs.Stored.{HasRows}
-use Rattle.upd_store.specs.declared.tree_reads.StoredRuns.{StoredRuns}
 use Rattle.upd_sql.specs.Commits.{ShowsIn}
 use Rattle.upd_sql.specs.Encoded.{version_row}
 use Rattle.upd_sql.specs.Schema.{library_schema, meta}
@@ -21,11 +20,6 @@ pub record ListsLibrary (it : Rows) (found : LibraryRows) : Type 0 where
   pub cards : found.cards.items ≡ it.cards
   pub entries : found.entries.items ≡ it.entries
   pub targets : found.targets.items ≡ it.targets
-
--- these are the stored runs and the marks, in their order
-pub record ListsRuns (it : Rows) (found : StoredRuns) : Type 0 where
-  pub runs : found.runs.items ≡ it.runs
-  pub marks : found.marks.items ≡ it.settled
 
 -- nothing is written, and no failure waits for a rollback
 abbrev pub IsWhole : View → Type 0

@@ -3,7 +3,6 @@
 //! The log is beside the file, under the file's name followed by `-wal`. While a library is open its file is locked:
 //! another program of this kind finds it in use, and so does SQLite.
 ghost use Rattle.std.specs.Prelude.{◌≡◌, IfErr, IfOk, IsTrue};
-ghost use Rattle.sqlite.specs.Closing.{IsCopied};
 ghost use Rattle.sqlite.specs.Effect.{Database};
 ghost use Rattle.sqlite.specs.Files.{HoldsDatabase, file_state};
 ghost use Rattle.sqlite.specs.Held.{state};
@@ -13,30 +12,33 @@ ghost use Rattle.sqlite_store.specs.FileStore.{view};
 ghost use Rattle.sqlite_trees.specs.Tree.{Trees};
 ghost use Rattle.sqlite_trees.specs.View.{IsClean};
 ghost use Rattle.sqlite_wal.specs.Files.{image_at};
-ghost use Rattle.sqlite_wal.specs.Reads.{AreClean};
 ghost use Rattle.upd_row_store.specs.Keeping.{IsLost};
 ghost use Rattle.upd_sql.specs.Making.{no_rows};
 ghost use Rattle.upd_sql.specs.Schema.{library_schema, no_schema};
 ghost use Rattle.upd_sql.specs.LibraryTables.{ShowsTables};
 ghost use Rattle.upd_store.specs.Beginning.{MayBegin};
 ghost use Rattle.upd_store.specs.Faults.{IsUnopened};
-ghost use Rattle.upd_store.specs.OpenedAgain.{OpensAgain, OpensAs};
+ghost use Rattle.upd_store.specs.OpenedAgain.{Closes, OpensAgain};
 
 use crate::exposure::{is_exposed, is_foreign_file};
-use crate::log_file::is_log_alone;
+use crate::log_file::{is_log_alone, log_path};
 use crate::sql_store::SqlStore;
 use crate::store_faults::{fault_of, no_memory, store_at};
 use sqlite::{Connection, FileFrom, FileStore, Files, Start};
 use sqlite_disk::Disk;
-use std::fs::OpenOptions;
+use std::fs::{OpenOptions, Permissions};
 use std::io::Read;
-use std::os::unix::fs::OpenOptionsExt;
+use std::os::unix::fs::{OpenOptionsExt, PermissionsExt};
+use std::path::Path;
 use std::{fs, io};
 use upd_sqlite::Rising;
 use upd_text::Fault;
 
 /// A library in a file. `S` stands for the contents of the file and its log when they were opened.
 pub type FileLibrary<S> = SqlStore<FileStore<FileFrom<S>>>;
+
+/// The bytes of a file's name that leave room for `-journal` in the 255 of a name.
+const MAX_FILE_NAME: usize = 247;
 
 /// The first bytes of each file of SQLite.
 const FIRST_BYTES: &[u8; 16] = b"SQLite format 3\0";
@@ -69,7 +71,8 @@ impl<S: Start> SqlStore<FileStore<FileFrom<S>>> {
     }
 }
 
-/// Makes an empty library in a file, and the file where it doesn't exist, with mode 0600. Where the file has any table the fault is Store,
+/// Makes an empty library in a file, and the file where it doesn't exist, with mode 0600. Its pages end in the sums of SQLite's
+/// cksumvfs: a changed byte is found by each open. Where the file has any table the fault is Store,
 /// at the version in the file, 0 where it has none, and no byte of it is changed. An empty file, or one in which this
 /// call was cut off, counts as no file. Where there is no file and the log beside the path has frames, where the file is
 /// another user's, where another user could put commits into the library (`exposure`), and where no such file can be made,
@@ -85,7 +88,7 @@ pub fn create<S: Start>(rt: &HostRuntime, path: &str, start: S) -> Result<FileLi
     spare_log(rt, path)?;
     refuse_exposed(rt, path)?;
     make_private(rt, path)?;
-    let conn = connect_or_make(rt, path, false, start)?;
+    let conn = connect_or_make(rt, path, true, start)?;
     match initialized(conn) {
         Ok(store) => Ok(store),
         Err(fault) => Err(fault),
@@ -129,9 +132,33 @@ fn make_private(rt: &HostRuntime, path: &str) -> Result<(), Fault>
         .mode(0o600)
         .open(rt, path);
     match made {
-        Ok(_) => Ok(()),
+        Ok(_) => close_left_log(rt, path),
         Err(error) if error.kind() == io::ErrorKind::AlreadyExists => refuse_foreign(rt, path),
         Err(error) => Err(file_fault(error)),
+    }
+}
+
+/// Leaves the rights on a log that was left where a file was made to its owner only.
+fn close_left_log(rt: &HostRuntime, path: &str) -> Result<(), Fault>
+    ensures lost { IfErr result IsLost }
+{
+    let closed = match log_path(rt, path) {
+        Ok(log) => close_file(rt, log.as_str()),
+        Err(error) => Err(error),
+    };
+    match closed {
+        Ok(()) => Ok(()),
+        Err(error) => Err(file_fault(error)),
+    }
+}
+
+/// Leaves the rights on a file to its owner only. What is no file stays as it is.
+fn close_file(rt: &HostRuntime, path: &str) -> io::Result<()> {
+    match fs::symlink_metadata(rt, path) {
+        Ok(found) if found.is_file() => {
+            fs::set_permissions(rt, path, Permissions::from_mode(0o600))
+        }
+        _ => Ok(()),
     }
 }
 
@@ -168,9 +195,12 @@ fn begins_as_text(rt: &HostRuntime, path: &str) -> io::Result<bool> {
     Ok(count == 1 && first[0] != 0 && first[0] != FIRST_BYTES[0])
 }
 
-/// Whether SQLite reads a path as something else than a file's name.
+/// Whether SQLite reads a path as something else than a file's name, or there is no room for the name of its journal.
 pub(crate) fn is_no_path(path: &str) -> bool {
-    path == ":memory:" || path.starts_with("file:")
+    let name = Path::new(path).file_name();
+    path == ":memory:"
+        || path.starts_with("file:")
+        || name.is_some_and(|name| name.len() > MAX_FILE_NAME)
 }
 
 /// Out of memory is NoMemory, any other error of a file a failure of the store.
@@ -218,18 +248,12 @@ fn initialized<S: Rising + Drop>(conn: Connection<S>) -> Result<SqlStore<S>, Fau
 
 /// Copies the log into the file, so that the file is the whole library, and returns both. Where that fails the file and
 /// its log together are the library as before, and the next open finds it.
-pub fn close<D: Disk + Drop>(library: SqlStore<FileStore<D>>) -> Result<Files<D>, Fault>
-    ensures copied { IfOk result (λ files. AreClean D.Disk files.log files.db → IsCopied library.conn files) }
-    ensures opens { IfOk result (λ files. AreClean D.Disk files.log files.db
-        → OpensAs D.Disk files (file_state library.conn).committed.trees) }
-    ensures lost { IfErr result IsLost }
+pub fn closed<D: Disk + Drop>(conn: Connection<FileStore<D>>) -> Files<D>
+    ensures { Closes result conn }
 {
-    match library.into_connection().close_files() {
-        Ok(files) => Ok(files),
-        Err((error, store)) => {
-            drop(store.close());
-            Err(fault_of(error))
-        }
+    match conn.close_files() {
+        Ok(files) => files,
+        Err((_, store)) => store.close(),
     }
 }
 

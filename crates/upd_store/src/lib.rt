@@ -19,9 +19,8 @@ mod version;
 
 pub use exposure::{is_foreign_log, is_open_folder};
 pub use log_file::{has_frames, is_closed_log, is_log_alone};
-pub use one_open::{open_once, opened};
+pub use one_open::{Opened, Purpose, open_once, opened};
 pub use sql_store::SqlStore;
 pub use store_faults::{fault_of, no_memory, refused, store_at};
-pub use tree_reads::StoredRuns;
 pub use tree_store::TreeStore;
 pub use version::version_of;

@@ -1,4 +1,4 @@
-//! One open of a library's file for both stores.
+//! One open of a library's file: over its trees where they serve, and else through SQL, from the very same files.
 ghost use Rattle.std.specs.Prelude.{◌≡◌, IfErr, IfOk, IsTrue};
 ghost use Rattle.sqlite.specs.Files.{image_of, file_state};
 ghost use Rattle.sqlite.specs.Start.{FindsIn};
@@ -8,16 +8,17 @@ ghost use Rattle.sqlite_store.specs.FileStore.{view};
 ghost use Rattle.sqlite_trees.specs.View.{IsClean};
 ghost use Rattle.upd_sql.specs.Schema.{library_schema};
 ghost use Rattle.sqlite_wal.specs.Files.{image_at};
-ghost use Rattle.sqlite_wal.specs.Reads.{OnlyReads};
 ghost use Rattle.upd_store.specs.Faults.{IsUnopened};
 ghost use Rattle.upd_store.specs.TreeReads.{IsLibrary};
-ghost use Rattle.upd_store.specs.OneOpen.{IsKept, IsTaken, MayFind};
+ghost use Rattle.upd_sql.specs.Commits.{ShowsIn};
+ghost use Rattle.upd_records.specs.Rows.{Rows};
+ghost use Rattle.upd_store.specs.OneOpen.{IsBelow, IsKept, IsServed, IsTaken, MayFind};
 ghost use Rattle.upd_store.specs.TreeOpening.{FindsTrees};
 
 use crate::file::{adopted, begins_as_database, refuse_exposed};
 use crate::sql_store::SqlStore;
 use crate::store_faults::{fault_of, no_memory, store_at};
-use crate::tree_library::is_third_library;
+use crate::tree_library::serves;
 use crate::tree_opening::attached;
 use crate::tree_store::TreeStore;
 use sqlite::{Connection, FileFrom, FileStore, Files, Start};
@@ -26,12 +27,36 @@ use sqlite_pager::{Options, Pager};
 use sqlite_std_file::OpenError;
 use sqlite_store::Unopened;
 use sqlite_trees::error::StoreError;
-use sqlite_wal::probe_page_size;
+use sqlite_wal::{probe_first_page, probe_page_size};
 use std::alloc::{AllocFailed, Global};
 use std::hash::{BuildHasher, RandomState};
 use std::io;
 use upd_sqlite::Rising;
 use upd_text::Fault;
+
+/// The four bytes of a header at 20 where eight bytes of each page are reserved for its sum.
+const WITH_SUMS: u32 = 0x0840_2020;
+
+/// What a library's file is opened for.
+#[derive(Clone, Copy, Debug, Drop)]
+pub enum Purpose<'a> {
+    /// A question, which writes nothing.
+    Reading,
+    /// A run with this key.
+    Run { site: &'a str, number: u64 },
+    /// Whatever else may write.
+    Writing,
+}
+
+/// Whether trees may serve a purpose.
+fn is_below(purpose: Purpose<'_>) -> bool
+    ensures { IsTrue result → IsBelow purpose.entry }
+{
+    !matches!(purpose, Purpose::Writing)
+}
+
+/// A library that was opened: over its trees, or through SQL.
+pub type Opened<S> = Result<TreeStore<S>, SqlStore<S>>;
 
 /// The store over two files, under the schema that they list. Where they aren't opened so they are given back.
 fn stored<D: Disk + Drop>(
@@ -50,11 +75,14 @@ fn stored<D: Disk + Drop>(
     let Some(size) = found else {
         return Err(files);
     };
+    let Ok(head) = probe_first_page(alloc, &mut files, size) else {
+        return Err(files);
+    };
     let pager = match Pager::new(alloc, files, size, options) {
         Ok(pager) => pager,
         Err(AllocFailed { value }) => return Err(value),
     };
-    let unopened = match Unopened::new(alloc, pager, &[]) {
+    let unopened = match Unopened::with_sums(alloc, pager, &[], head.1 == WITH_SUMS) {
         Ok(unopened) => unopened,
         Err(AllocFailed { value }) => return Err(value.close()),
     };
@@ -77,23 +105,27 @@ fn over_store<S: Rising + Drop>(alloc: Global, store: S) -> Result<SqlStore<S>, 
     }
 }
 
-/// The library over a store that was just opened: over its trees, or through SQL where they aren't a library's of version 3.
+/// The library over a store that was just opened: over its trees where they are a library's of version 3 and serve the
+/// purpose, and else through SQL.
 fn over_either<S: Rising + Drop>(
     alloc: Global,
     store: S,
-) -> Result<Result<TreeStore<S>, SqlStore<S>>, Fault>
+    purpose: Purpose<'_>,
+) -> Result<Opened<S>, Fault>
     requires { IsClean (S.Store.view store) → IsFresh (S.Store.view store) }
     ensures below { IfOk result (λ l. IfOk l (λ s. IsKept S.Store store s.store)) }
+    ensures served { IfOk result (λ l. IfOk l (λ s. IsClean (S.Store.view s.store)
+        → (it : Rows) → ShowsIn (S.Store.view s.store).committed it → IsServed purpose.entry it)) }
     ensures above { IfOk result (λ l. IfErr l (λ s. IsTaken S.Store store s.conn)) }
     ensures unopened { IfErr result IsUnopened }
 {
     let mut store = store;
-    let is_ours = match is_third_library(&mut store, alloc) {
-        Ok(is_ours) => is_ours,
+    let is_served = match serves(&mut store, alloc, purpose) {
+        Ok(is_served) => is_served,
         Err(StoreError::OutOfMemory) => return Err(no_memory()),
         Err(_) => return Err(store_at(0)),
     };
-    if is_ours {
+    if is_served {
         return Ok(Ok(TreeStore {
             store,
             failures: 0,
@@ -142,26 +174,14 @@ fn why_not<D: Disk + Drop>(alloc: Global, files: Files<D>, options: Options) -> 
     }
 }
 
-/// Whether the file's header reserves eight bytes of each page, as one with sums does.
-fn has_sums<D: Disk>(db: &mut D) -> bool
-    requires { IsTrue (D.Disk.is_usable db.old) }
-    ensures { OnlyReads D.Disk db.old db.new }
-{
-    let mut head = [0u8; 24];
-    match db.read_at(0, &mut head) {
-        Ok(()) => head[20] == 8,
-        Err(_) => false,
-    }
-}
-
-/// Opens the library in two files that the caller has opened, once: below SQL for a question, through SQL for a run, and for
-/// a file whose pages have sums.
+/// Opens the library in two files that the caller has opened, once: below SQL for a question and a repeat, and else through
+/// SQL.
 pub fn opened<D: Disk + Drop>(
     alloc: Global,
     files: Files<D>,
     seed: u64,
-    only_reads: bool,
-) -> Result<Result<TreeStore<FileStore<D>>, SqlStore<FileStore<D>>>, Fault>
+    purpose: Purpose<'_>,
+) -> Result<Opened<FileStore<D>>, Fault>
     requires log { IsTrue (D.Disk.is_usable files.log) }
     requires db { IsTrue (D.Disk.is_usable files.db) }
     ensures below { IfOk result (λ l. IfOk l (λ s. IsClean (view s.store)
@@ -170,18 +190,19 @@ pub fn opened<D: Disk + Drop>(
         → FindsIn (image_of D.Disk files) (file_state s.conn))) }
     ensures ours { IfOk result (λ l. IfErr l (λ s. HasCleanDisk (file_state s.conn) → IsTrue (file_state s.conn).is_open
         → (file_state s.conn).committed.schema ≡ library_schema)) }
-    ensures only { IfOk result (λ l. IfOk l (λ _. IsTrue only_reads)) }
+    ensures only { IfOk result (λ l. IfOk l (λ _. IsBelow purpose.entry)) }
+    ensures served { IfOk result (λ l. IfOk l (λ s. IsClean (view s.store)
+        → (it : Rows) → ShowsIn (view s.store).committed it → IsServed purpose.entry it)) }
     ensures unopened { IfErr result IsUnopened }
 {
-    let mut files = files;
-    if has_sums(&mut files.db) || !only_reads {
+    if !is_below(purpose) {
         return match through_sql(alloc, files, Options::new(seed)) {
             Ok(library) => Ok(Err(library)),
             Err(fault) => Err(fault),
         };
     }
     match stored(alloc, files, Options::new(seed)) {
-        Ok(store) => over_either(alloc, store),
+        Ok(store) => over_either(alloc, store, purpose),
         Err(left) => Err(why_not(alloc, left, Options::new(seed))),
     }
 }
@@ -197,20 +218,23 @@ fn files_fault(error: OpenError) -> Fault
     }
 }
 
-/// Opens the library in a file, once: below SQL for a question, through SQL for a run, and for a file whose pages have sums.
+/// Opens the library in a file, once: below SQL for a question and for a repeat, and else through SQL. The faults are those of
+/// `SqlStore::open`.
 pub fn open_once<St: Start>(
     rt: &HostRuntime,
     path: &str,
     start: St,
-    only_reads: bool,
-) -> Result<Result<TreeStore<FileStore<FileFrom<St>>>, SqlStore<FileStore<FileFrom<St>>>>, Fault>
+    purpose: Purpose<'_>,
+) -> Result<Opened<FileStore<FileFrom<St>>>, Fault>
     ensures below { IfOk result (λ l. IfOk l (λ s. IsClean (view s.store)
         → FindsTrees (image_at St.Start) (view s.store).committed × IsLibrary (view s.store).committed)) }
     ensures found { IfOk result (λ l. IfErr l (λ s. HasCleanDisk (file_state s.conn) → IsTrue (file_state s.conn).is_open
         → FindsIn (image_at St.Start) (file_state s.conn))) }
     ensures ours { IfOk result (λ l. IfErr l (λ s. HasCleanDisk (file_state s.conn) → IsTrue (file_state s.conn).is_open
         → (file_state s.conn).committed.schema ≡ library_schema)) }
-    ensures only { IfOk result (λ l. IfOk l (λ _. IsTrue only_reads)) }
+    ensures only { IfOk result (λ l. IfOk l (λ _. IsBelow purpose.entry)) }
+    ensures served { IfOk result (λ l. IfOk l (λ s. IsClean (view s.store)
+        → (it : Rows) → ShowsIn (view s.store).committed it → IsServed purpose.entry it)) }
     ensures unopened { IfErr result IsUnopened }
 {
     if !begins_as_database(rt, path).unwrap_or(false) {
@@ -224,5 +248,5 @@ pub fn open_once<St: Start>(
     let Ok(state) = RandomState::new(rt) else {
         return Err(store_at(0));
     };
-    opened(rt.alloc(), files, state.hash_one(&0u8), only_reads)
+    opened(rt.alloc(), files, state.hash_one(&0u8), purpose)
 }

@@ -12,12 +12,12 @@ use std::collections::BTreeMap;
 use upd_core::{Actives, CardRef, Change, Library, Name, Serial, States};
 use upd_records::{LibraryRows, RunRow};
 use upd_row_store::{
-    Meaning, RowStore, ages_of_decks, assembled, assembled_active, assembled_part, decks_by_age,
-    reads_with,
+    Meaning, RowStore, StoredRuns, ages_of_decks, assembled, assembled_active, assembled_part,
+    decks_by_age, reads_with,
 };
 use upd_sql::{
     commit_changes, is_library_schema, settle_site, stored_active, stored_library_rows,
-    stored_mark, stored_run, stored_states,
+    stored_mark, stored_run, stored_runs, stored_states,
 };
 use upd_sqlite::{Rising, committed_schema};
 use upd_text::Fault;
@@ -164,6 +164,16 @@ impl<S: Rising> RowStore for SqlStore<S> {
         }
         match stored_mark(&mut self.conn, site) {
             Ok(mark) => Ok(mark),
+            Err(error) => Err(counted(error, &mut self.failures)),
+        }
+    }
+
+    fn stored_runs(&mut self, alloc: Global) -> Result<StoredRuns, Fault> {
+        if !is_ours(&self.conn) {
+            return Err(refused(&mut self.failures));
+        }
+        match stored_runs(&mut self.conn, alloc) {
+            Ok(runs) => Ok(runs),
             Err(error) => Err(counted(error, &mut self.failures)),
         }
     }

@@ -1,4 +1,4 @@
-//! Whether a store's trees are a library's: its schema, as SQL would read it, and the row of `meta`.
+//! Whether a store's trees are a library's: its schema, as SQL would read it, and the row of `meta`. And what they serve.
 ghost use Rattle.std.specs.Prelude.{◌≡◌, ◌∷◌, [], false, drop, map, IfOk, IfSome, IsTrue, OnOk};
 ghost use Rattle.sqlite_catalog.specs.Listing.{Lists};
 ghost use Rattle.sqlite_trees.specs.Objects.{catalog_tree};
@@ -6,10 +6,18 @@ ghost use Rattle.sqlite_trees.specs.View.{IsClean, IsQuiet};
 ghost use Rattle.sqlite.specs.Steps.{IsFresh};
 ghost use Rattle.upd_sql.specs.Encoded.{version_row};
 ghost use Rattle.upd_sql.specs.Schema.{library_schema};
+ghost use Rattle.upd_records.specs.Rows.{Rows};
+ghost use Rattle.upd_sql.specs.Commits.{ShowsIn};
+ghost use Rattle.upd_store.specs.OneOpen.{IsAnswered, IsServed};
 ghost use Rattle.upd_store.specs.TreeReads.{IsAdopted, IsLibrary};
 ghost use Rattle.sqlite_exec.specs.Calls.{OnlyReads};
 
+use crate::one_open::Purpose;
+use crate::tree_finds::{mark_under, run_under};
+use crate::tree_reads::{walk, walk_index};
+use crate::tree_records::Record;
 use crate::tree_store::TreeStore;
+use crate::tree_tallies::Tally;
 use sqlite_catalog::load::load;
 use sqlite_exec::check;
 use sqlite_exec::work::Workspace;
@@ -18,6 +26,7 @@ use sqlite_trees::store::{Alter, Store};
 use sqlite_value::row::Row;
 use sqlite_value::value::ValueRef;
 use std::alloc::{AllocError, Global};
+use upd_records::{MarkRow, RunRow};
 use upd_sql::is_library_schema;
 
 /// Whether the list of objects is that of the library's schema, as a connection reads it.
@@ -67,7 +76,7 @@ fn has_version<S: Store>(store: &mut S, alloc: Global) -> Result<bool, StoreErro
 }
 
 /// Whether the trees are a library's of version 3.
-pub(crate) fn is_third_library<S: Alter>(store: &mut S, alloc: Global) -> Result<bool, StoreError>
+fn is_third_library<S: Alter>(store: &mut S, alloc: Global) -> Result<bool, StoreError>
     requires { IsClean (S.Store.view store.old) → (S.Store.view store.old).is_broken ≡ false }
     ensures ours { IfOk result (λ found. IsClean (S.Store.view store.new) → IsTrue found
         → IsLibrary (S.Store.view store.old).trees) }
@@ -79,6 +88,69 @@ pub(crate) fn is_third_library<S: Alter>(store: &mut S, alloc: Global) -> Result
         return Ok(false);
     }
     has_version(store, alloc)
+}
+
+/// The records of a table. Corrupt where its index has other entries.
+fn read_table<S: Store, T: Record + Drop>(
+    store: &mut S,
+    alloc: Global,
+) -> Result<Vec<T>, StoreError>
+    ensures found { IsClean (S.Store.view store.new) → IfOk result (λ found. (it : Rows)
+        → ShowsIn (S.Store.view store.old).trees it → found.items ≡ T.listed it) }
+    ensures same { IsClean (S.Store.view store.new)
+        → OnOk result (OnlyReads (S.Store.view store.old) (S.Store.view store.new)) }
+    ensures quiet { IsQuiet S.Store.view S.Store.faults S.Store.recovers S.Store.is_shielded store.old store.new }
+{
+    let mut rows = Tally::new();
+    let found = walk(store, alloc, &mut rows)?;
+    walk_index(store, alloc, T::INDEX, T::KEYS, &rows)?;
+    Ok(found)
+}
+
+/// Whether the reply to a run of this key is stored, or settled.
+fn is_answered<S: Store>(
+    store: &mut S,
+    alloc: Global,
+    site: &str,
+    number: u64,
+) -> Result<bool, StoreError>
+    ensures answered { IsClean (S.Store.view store.new) → IfOk result (λ found. IsTrue found → (it : Rows)
+        → ShowsIn (S.Store.view store.old).trees it → IsAnswered site.now number it) }
+    ensures same { IsClean (S.Store.view store.new)
+        → OnOk result (OnlyReads (S.Store.view store.old) (S.Store.view store.new)) }
+    ensures quiet { IsQuiet S.Store.view S.Store.faults S.Store.recovers S.Store.is_shielded store.old store.new }
+{
+    let runs: Vec<RunRow> = read_table(store, alloc)?;
+    if run_under(runs, site, number).is_some() {
+        return Ok(true);
+    }
+    let marks: Vec<MarkRow> = read_table(store, alloc)?;
+    Ok(number <= mark_under(&marks, site))
+}
+
+/// Whether the trees are a library's of version 3, and serve a purpose.
+pub(crate) fn serves<S: Alter>(
+    store: &mut S,
+    alloc: Global,
+    purpose: Purpose<'_>,
+) -> Result<bool, StoreError>
+    requires { IsClean (S.Store.view store.old) → (S.Store.view store.old).is_broken ≡ false }
+    ensures ours { IfOk result (λ found. IsClean (S.Store.view store.new) → IsTrue found
+        → IsLibrary (S.Store.view store.old).trees) }
+    ensures served { IfOk result (λ found. IsClean (S.Store.view store.new) → IsTrue found → (it : Rows)
+        → ShowsIn (S.Store.view store.old).trees it → IsServed purpose.entry it) }
+    ensures same { IsClean (S.Store.view store.new)
+        → OnOk result (OnlyReads (S.Store.view store.old) (S.Store.view store.new)) }
+    ensures quiet { IsQuiet S.Store.view S.Store.faults S.Store.recovers S.Store.is_shielded store.old store.new }
+{
+    if !is_third_library(store, alloc)? {
+        return Ok(false);
+    }
+    match purpose {
+        Purpose::Reading => Ok(true),
+        Purpose::Run { site, number } => is_answered(store, alloc, site, number),
+        Purpose::Writing => Ok(false),
+    }
 }
 
 impl<S: Alter + Drop> TreeStore<S> {

@@ -1,8 +1,8 @@
 //! The library's tables, each read by one walk over its tree and one over its index, outside of a transaction.
 ghost use Rattle.std.specs.Prelude.{◌≡◌};
-ghost use Rattle.upd_row_store.specs.Tables.{AreByKey, AreRead};
+ghost use Rattle.upd_row_store.specs.Tables.{AreByKey, AreRead, ListsRuns};
 ghost use Rattle.upd_sql.specs.Part.{AreActiveRows};
-ghost use Rattle.upd_store.specs.TreeReads.{Answers, Finds, IsWhole, ListsLibrary, ListsRuns};
+ghost use Rattle.upd_store.specs.TreeReads.{Answers, Finds, IsWhole, ListsLibrary};
 
 use crate::tree_records::Record;
 use crate::tree_tallies::Tally;
@@ -11,19 +11,12 @@ use sqlite_trees::store::{Direction, Store};
 use sqlite_value::row::Row;
 use std::alloc::Global;
 use upd_core::States;
-use upd_records::{LibraryRows, MarkRow, RunRow};
-use upd_row_store::states_by_key;
+use upd_records::LibraryRows;
+use upd_row_store::{StoredRuns, states_by_key};
 use upd_sql::ActiveRows;
 
-/// Stored runs and marks.
-#[derive(Debug, Drop)]
-pub struct StoredRuns {
-    pub runs: Vec<RunRow>,
-    pub marks: Vec<MarkRow>,
-}
-
 /// The records of a table, in the order of their rowids. Beside them one row is in memory at a time.
-fn walk<S: Store, T: Record + Drop>(
+pub(crate) fn walk<S: Store, T: Record + Drop>(
     store: &mut S,
     alloc: Global,
     rows: &mut Tally,
@@ -45,7 +38,7 @@ fn walk<S: Store, T: Record + Drop>(
 }
 
 /// Compares the entries of an index with the rows of its table.
-fn walk_index<S: Store>(
+pub(crate) fn walk_index<S: Store>(
     store: &mut S,
     alloc: Global,
     tree: u32,

@@ -1,19 +1,20 @@
 //! The library in the trees of a store below SQL, as a `RowStore` that only reads.
 ghost use Rattle.std.specs.Prelude.{◌≡◌, ◌≤◌, IfErr};
 ghost use Rattle.upd_row_store.specs.Keeping.{IsLost, failures_with};
-ghost use Rattle.upd_store.specs.TreeReads.{Answers, IsWhole, ListsRuns};
+ghost use Rattle.upd_row_store.specs.Tables.{ListsRuns};
+ghost use Rattle.upd_store.specs.TreeReads.{Answers, IsWhole};
 
 use crate::store_faults::{no_memory, refused};
 use crate::tree_finds::{mark_under, run_under};
-use crate::tree_reads::{StoredRuns, active_rows, library_rows, records, states, stored_runs};
+use crate::tree_reads::{active_rows, library_rows, records, states, stored_runs};
 use sqlite_trees::error::StoreError;
 use sqlite_trees::store::Store;
 use std::alloc::Global;
 use upd_core::{Actives, CardRef, Change, Library, Serial, States};
 use upd_records::{LibraryRows, MarkRow, RunRow};
 use upd_row_store::{
-    DeckOf, Meaning, RowStore, ages_of_decks, assembled, assembled_active, assembled_deck,
-    assembled_part, decks_by_age, reads_with,
+    DeckOf, Meaning, RowStore, StoredRuns, ages_of_decks, assembled, assembled_active,
+    assembled_deck, assembled_part, decks_by_age, reads_with,
 };
 use upd_text::Fault;
 
@@ -34,6 +35,20 @@ impl<S: Store + Drop> Drop for TreeStore<S> {
             failures: _,
             decks_read: _,
         } = self;
+    }
+}
+
+impl<S: Store> TreeStore<S> {
+    /// Returns the store. Nothing is written.
+    pub fn into_store(self) -> S
+        ensures { result ≡ self.store }
+    {
+        let TreeStore {
+            store,
+            failures: _,
+            decks_read: _,
+        } = self;
+        store
     }
 }
 
@@ -184,6 +199,13 @@ impl<S: Store> RowStore for TreeStore<S> {
     fn mark(&mut self, alloc: Global, site: &str) -> Result<u64, Fault> {
         match records::<S, MarkRow>(&mut self.store, alloc) {
             Ok(rows) => Ok(mark_under(rows.as_slice(), site)),
+            Err(error) => Err(failed_read(error, &mut self.failures)),
+        }
+    }
+
+    fn stored_runs(&mut self, alloc: Global) -> Result<StoredRuns, Fault> {
+        match stored_runs(&mut self.store, alloc) {
+            Ok(runs) => Ok(runs),
             Err(error) => Err(failed_read(error, &mut self.failures)),
         }
     }

@@ -1,12 +1,12 @@
-//! A library's files, opened once: below SQL for a question, through SQL for a run and where the trees aren't a library's, and
-//! with a fault where a call of the disk fails.
+//! A library's files, opened once: below SQL for a question and a repeat, through SQL for a new run and where the trees aren't
+//! a library's, and with a fault where a call of the disk fails.
 use crate::fused_files::{Bytes, Fused, Work, work_in};
 use sqlite::Connection;
 use sqlite_disk::Files;
 use std::alloc::Global;
 use std::test::Fail;
 use upd_sqlite::Rising;
-use upd_store::{SqlStore, opened};
+use upd_store::{Purpose, SqlStore, opened};
 use upd_testkit::check::{holds, same};
 use upd_text::FaultKind;
 
@@ -50,11 +50,11 @@ enum Way {
     Fault(FaultKind, u32),
 }
 
-fn way_of(alloc: Global, files: Files<Fused>, only_reads: bool) -> Result<Way, Fail> {
+fn way_of(alloc: Global, files: Files<Fused>, purpose: Purpose<'_>) -> Result<Way, Fail> {
     if !files.may_be_used() {
         return Err("files that may not be used".into());
     }
-    Ok(match opened(alloc, files, 1, only_reads) {
+    Ok(match opened(alloc, files, 1, purpose) {
         Ok(Ok(_)) => Way::Trees,
         Ok(Err(_)) => Way::Sql,
         Err(fault) => Way::Fault(fault.kind, fault.at),
@@ -64,7 +64,7 @@ fn way_of(alloc: Global, files: Files<Fused>, only_reads: bool) -> Result<Way, F
 /// A library after a statement is opened so for a question.
 fn is_asked(alloc: Global, sql: &str, wanted: Way) -> Result<(), Fail> {
     let files = made(alloc, sql)?.whole_files(alloc)?;
-    same(sql, way_of(alloc, files, true)?, wanted)
+    same(sql, way_of(alloc, files, Purpose::Reading)?, wanted)
 }
 
 #[test]
@@ -76,10 +76,25 @@ fn a_question_gets_the_trees_of_a_library(rt: HostRuntime) -> Result<(), Fail> {
     is_asked(rt.alloc(), OLDER, Way::Fault(FaultKind::Store, 2))
 }
 
+/// A library with the stored run 9 of NORTH, and with its runs up to 7 settled.
+const RUNS: &str =
+    "INSERT INTO runs VALUES ('NORTH', 9, 2, x'', 0, x''); INSERT INTO settled VALUES ('NORTH', 7)";
+
+/// How the library is opened for a run.
+fn run_way(alloc: Global, site: &str, number: u64) -> Result<Way, Fail> {
+    let files = made(alloc, RUNS)?.whole_files(alloc)?;
+    way_of(alloc, files, Purpose::Run { site, number })
+}
+
 #[test]
-fn a_run_gets_a_connection(rt: HostRuntime) -> Result<(), Fail> {
-    let files = made(rt.alloc(), "")?.whole_files(rt.alloc())?;
-    same("a run", way_of(rt.alloc(), files, false)?, Way::Sql)
+fn a_repeat_gets_the_trees_and_a_new_run_a_connection(rt: HostRuntime) -> Result<(), Fail> {
+    let alloc = rt.alloc();
+    same("stored", run_way(alloc, "NORTH", 9)?, Way::Trees)?;
+    same("settled", run_way(alloc, "NORTH", 7)?, Way::Trees)?;
+    same("new", run_way(alloc, "NORTH", 8)?, Way::Sql)?;
+    same("another site's", run_way(alloc, "SOUTH", 7)?, Way::Sql)?;
+    let files = made(alloc, RUNS)?.whole_files(alloc)?;
+    same("writing", way_of(alloc, files, Purpose::Writing)?, Way::Sql)
 }
 
 /// Until this number of calls of the log, or of the file, is enough, an open fails with Store.
@@ -90,7 +105,7 @@ fn each_call_counts(alloc: Global, bytes: &Bytes, of_log: bool) -> Result<u64, F
         } else {
             (u64::MAX, at)
         };
-        let way = way_of(alloc, bytes.files(alloc, calls)?, true)?;
+        let way = way_of(alloc, bytes.files(alloc, calls)?, Purpose::Reading)?;
         if way == Way::Trees {
             return Ok(at);
         }

@@ -12,7 +12,7 @@ use upd_testkit::asks::{Ask, Sent};
 use upd_testkit::check::{holds, same_text};
 use upd_testkit::random_runs::{DECKS, Dice, LISTINGS, random_run};
 use upd_testkit::reference_desk::ReferenceDesk;
-use upd_testkit::reference_rows::reference_tables;
+use upd_testkit::reference_rows::{lists_stored, reference_tables};
 use upd_testkit::session::Session;
 
 /// A store over which random lists are tried.
@@ -163,8 +163,8 @@ pub fn after_decks<S: Fresh>(alloc: Global, decks: &str) -> Result<Session<S>, F
     Ok(session)
 }
 
-/// Steps on these decks, and then the listings: the store is compared after each step, or after every tenth. The number
-/// of accepted runs, and how often rows were in memory.
+/// Steps on these decks, and then the listings and the stored runs: the store is compared after each step, or after every
+/// tenth. The number of accepted runs, and how often rows were in memory.
 fn random_list<S: Tried>(
     alloc: Global,
     dice: &mut Dice,
@@ -182,7 +182,14 @@ fn random_list<S: Tried>(
         }
     }
     session.ask_all(&LISTINGS)?;
-    Ok((session.reference.accepted, in_memory))
+    let Session {
+        desk,
+        reference,
+        ..
+    } = session;
+    let mut store = desk.close();
+    lists_stored(&mut store, &reference)?;
+    Ok((reference.accepted, in_memory))
 }
 
 /// As many lists of as many steps: the number of accepted runs, and how often rows were in memory.

@@ -21,7 +21,7 @@ use upd_testkit::asks::{Ask, Sent};
 use upd_testkit::check::{same, same_text};
 use upd_testkit::random_runs::{DECKS, Dice, LISTINGS};
 use upd_testkit::reference_desk::ReferenceDesk;
-use upd_testkit::reference_rows::{joined, reference_tables};
+use upd_testkit::reference_rows::{joined, lists_stored, reference_tables};
 use upd_testkit::session::Session;
 
 /// The store of a connection, as it is just after it was opened.
@@ -106,7 +106,8 @@ fn is_answered_below(session: Session<Tables>, asks: &[Ask<'_>]) -> Result<(), F
         reference,
         alloc,
     } = session;
-    let trees = is_read_below(alloc, desk.close())?;
+    let mut trees = is_read_below(alloc, desk.close())?;
+    lists_stored(&mut trees, &reference)?;
     Session::over(trees, reference).ask_all(asks)
 }
 

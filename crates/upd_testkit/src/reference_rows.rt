@@ -1,18 +1,56 @@
 //! The tables as text, as the reference desk would store them.
+use crate::check::same_text;
 use crate::reference_desk::{ReferenceDesk, StoredRun};
 use std::alloc::Global;
 use std::test::Fail;
 use upd_core::ident::name_at;
 use upd_core::{Card, CardRef, Ident, Kind, Library, Name, Target};
+use upd_row_store::{RowStore, StoredRuns};
 
 /// Sorted lines.
 pub fn joined(alloc: Global, mut lines: Vec<String>) -> Result<String, Fail> {
     lines.sort()?;
+    in_turn(alloc, &lines)
+}
+
+/// Lines in their order.
+fn in_turn(alloc: Global, lines: &[String]) -> Result<String, Fail> {
     let mut text = String::new(alloc);
-    for line in &lines {
+    for line in lines {
         write!(text, "{line}\n")?;
     }
     Ok(text)
+}
+
+/// A store lists the runs and the marks that the reference desk would store, in the same order.
+pub fn lists_stored<S: RowStore>(store: &mut S, reference: &ReferenceDesk) -> Result<(), Fail> {
+    let alloc = reference.library.allocator();
+    let mut lines = Vec::new(alloc);
+    add_runs(&mut lines, reference)?;
+    add_marks(&mut lines, reference)?;
+    let wanted = in_turn(alloc, &lines)?;
+    let found = listed_lines(alloc, &store.stored_runs(alloc)?)?;
+    same_text("the stored runs", &in_turn(alloc, &found)?, &wanted)
+}
+
+/// The lines of stored runs and marks.
+fn listed_lines(alloc: Global, stored: &StoredRuns) -> Result<Vec<String>, Fail> {
+    let mut lines = Vec::new(alloc);
+    for run in &stored.runs {
+        let bytes = std::str::from_utf8(&run.bytes)?;
+        let reply = std::str::from_utf8(&run.reply)?;
+        lines.push(format!(in alloc;
+            "runs|'{}'|{}|{}|x'{bytes}'|{}|x'{reply}'",
+            run.site,
+            run.number,
+            run.mode,
+            u8::from(run.accepted)
+        )?)?;
+    }
+    for row in &stored.marks {
+        lines.push(format!(in alloc; "settled|'{}'|{}", row.site, row.mark)?)?;
+    }
+    Ok(lines)
 }
 
 /// The sorted lines of the tables that the reference desk would store.

@@ -12,15 +12,12 @@ err_then : {T E : Type 0} (r : Result T E) {P Q : E → Type 0} → IfErr r P �
 err_then (Ok x) h f = tt
 err_then (Err e) h f = f e h
 
-abbrev image : List ℕ → List ℕ → Image
-image log db = record { log = log; db = db }
-
 pub returns-in-Ok-stored-clause-below : goal.returns-in-Ok-stored-clause-below
 returns-in-Ok-stored-clause-below g c = ok_then c.over_either.result c.over_either.ensures.below (λ l h. ok_then l h (λ s kept clean.
     let start = image_of g.D.Disk c.args.files in
     let store = c.in-Ok-stored.store in
     let early : IsClean (view store) = omega (arith, clean, kept.clean) in
-    let it = subst (λ i. MayFind i (view store)) (ap (image (g.D.Disk.seen c.args.files.log)) c.has_sums.ensures.seen) (c.in-Ok-stored.ensures early) in
+    let it = c.in-Ok-stored.ensures early in
     let ours = kept.ours clean in
     let same = kept.same clean in
     (subst (FindsTrees start) (sym same) (it.finds (subst (λ (t : Trees). Lists (t catalog_tree) library_schema) same ours.lists)), ours)))
@@ -30,7 +27,7 @@ returns-in-Ok-stored-clause-found g c = ok_then c.over_either.result c.over_eith
     let start = image_of g.D.Disk c.args.files in
     let store = c.in-Ok-stored.store in
     let early : IsClean (view store) = omega (arith, clean, taken.clean) in
-    let it = subst (λ i. MayFind i (view store)) (ap (image (g.D.Disk.seen c.args.files.log)) c.has_sums.ensures.seen) (c.in-Ok-stored.ensures early) in
+    let it = c.in-Ok-stored.ensures early in
     let found = it.finds (taken.lists clean is_open) in
     let same = taken.trees clean is_open in
     record { holds = λ db held. same ∙ found.holds db held; reads = subst (AreFoundIn start) (sym same) found.reads }))
