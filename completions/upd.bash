@@ -1,7 +1,7 @@
 # bash completion of upd, and of its scripts upd-bring, upd-tree, upd-edit and upd-put
 _upd() {
     local word=${COMP_WORDS[COMP_CWORD]} command=${COMP_WORDS[1]} words=
-    local commands="trial init run settle spool serve serve-local compile list history blame show idents yanks page text text-at correct correct-at correct-parts try try-at run-at source runs sites backup examine replay migrate explain help"
+    local commands="trial init run settle spool serve serve-local compile list history blame show idents yanks page text text-at correct correct-at correct-parts try try-at run-at source runs sites backup compact examine replay migrate explain help"
     COMPREPLY=()
     case $COMP_CWORD,$command in
         1,*) words="$commands --help --version" ;;

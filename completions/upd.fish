@@ -1,5 +1,5 @@
 # fish completion of upd and of its scripts, to be installed as /etc/fish/completions/upd.fish, with links for the scripts
-set -l commands trial init run settle spool serve serve-local compile list history blame show idents yanks page text text-at correct correct-at correct-parts try try-at run-at source runs sites backup examine replay migrate explain help
+set -l commands trial init run settle spool serve serve-local compile list history blame show idents yanks page text text-at correct correct-at correct-parts try try-at run-at source runs sites backup compact examine replay migrate explain help
 complete -c upd -f
 complete -c upd -n "not __fish_seen_subcommand_from $commands" -a trial -d 'apply a run to an empty library'
 complete -c upd -n "not __fish_seen_subcommand_from $commands" -a init -d 'make an empty library in a file'
@@ -28,6 +28,7 @@ complete -c upd -n "not __fish_seen_subcommand_from $commands" -a source -d 'wri
 complete -c upd -n "not __fish_seen_subcommand_from $commands" -a runs -d 'list the stored runs'
 complete -c upd -n "not __fish_seen_subcommand_from $commands" -a sites -d 'list the sites with their next numbers'
 complete -c upd -n "not __fish_seen_subcommand_from $commands" -a backup -d 'make a whole copy of the file of a library'
+complete -c upd -n "not __fish_seen_subcommand_from $commands" -a compact -d 'make a library anew, with the same rows and no free space'
 complete -c upd -n "not __fish_seen_subcommand_from $commands" -a examine -d 'say what is at a path, and whether it is a sound library'
 complete -c upd -n "not __fish_seen_subcommand_from $commands" -a replay -d 'hand the stored runs in again, at an empty library, and compare'
 complete -c upd -n "not __fish_seen_subcommand_from $commands" -a migrate -d 'migrate an older file to the present schema'
@@ -40,7 +41,7 @@ complete -c upd -n "__fish_seen_subcommand_from correct-parts; and test $words -
 complete -c upd -n "__fish_seen_subcommand_from explain; and test $words -eq 2" -a 'RunLong TooManyLines BadByte LineLong BadName BadCard BadField NoIdent TextNowhere NameTaken IdentUnknown DeckUnknown CardUnknown RangeOrder DeckCard YankText YankSelf Reserved Full CallUnknown CallDepth CompileLong BadSite BadNumber BadMode RunChanged Settled NoMemory Store BadFrame CutFrame Read Write'
 complete -c upd -n "__fish_seen_subcommand_from try try-at; and test $words -eq 3" -a 'full quick normal'
 complete -c upd -n "__fish_seen_subcommand_from help; and test $words -eq 2" -a "$commands"
-complete -c upd -n "__fish_seen_subcommand_from init run settle spool serve serve-local compile list history blame show idents yanks page text text-at correct correct-at correct-parts try try-at run-at source runs sites backup examine replay migrate; and test $words -eq 2" -F
+complete -c upd -n "__fish_seen_subcommand_from init run settle spool serve serve-local compile list history blame show idents yanks page text text-at correct correct-at correct-parts try try-at run-at source runs sites backup compact examine replay migrate; and test $words -eq 2" -F
 complete -c upd -s h -l help -d 'show the words of a command'
 complete -c upd -s V -l version -d 'show the version'
 

@@ -1,14 +1,21 @@
--- The bytes that were read of a whole file are the file's, and why a file isn't closed or read.
+-- The bytes that were read of a whole file are the file's, why a file isn't closed or read, and what a library is that was made anew.
 use Rattle.upd_keep.proofs.Common.{◌≡◌, ◌⊎◌, inr, false, ℕ, ◌+◌, ◌<◌, Bool, ◌&&◌, IsTrue, List, [], ◌∷◌, ◌++◌, length, take, refl, sym, ap, subst, ◌∙◌, arith}
 use Rattle.upd_keep.proofs.Common.{Holds, MoreFaults, Ghosts, StoreError, Error, file_state, Held, Fault, NoMemory, Store, IsLost, OfMemory, OfStore, kind_for}
 use Rattle.std.proofs.Common.{slice_index}
 use Rattle.std.proofs.lemmas.Grind.{same_number_lists}
 use Rattle.sqlite_trees.specs.declared.error.StoreError.TheVariants as store
 use Rattle.sqlite_store.specs.declared.store.FileStore.{FileStore}
-use Rattle.sqlite_store.specs.FileStore.{faults}
+use Rattle.sqlite_store.specs.FileStore.{faults, view}
 use Rattle.sqlite.specs.Files.{ExcusesClose, FailsToClose}
 use Rattle.sqlite.specs.State.{store_error}
 use Rattle.upd_text.specs.declared.fault.FaultKind.TheVariants.{Write}
+use Rattle.std.proofs.Common.{Result, Ok, Err, MatchResult}
+use Rattle.sqlite_wal.specs.Reads.{AreClean}
+use Rattle.sqlite_store.specs.Laws.{shut_if_dirty_at}
+use Rattle.sqlite.proofs.StateLemmas.{clean_if_open}
+use Rattle.upd_keep.proofs.Common.{inl}
+use Rattle.upd_keep.specs.Copying.{HasRowsOf, IsMadeAnew, IsReadWhole}
+use Rattle.upd_store.specs.Faults.{IsUnopened}
 
 all_read : (file bytes : List ℕ) → length bytes ≡ length file → (0 < length bytes → Holds file 0 bytes) → bytes ≡ file
 all_read [] [] same held = refl
@@ -47,3 +54,26 @@ module _ {D : Type 0} {g : Ghosts D} (conn : Held (FileStore D g)) (last : FileS
 pub never_write : (fault : Fault) → IsLost fault → fault.kind ≡ Write → ⊥
 never_write fault (OfMemory f kind at) write = let no : NoMemory ≡ Write = sym kind ∙ write in cc
 never_write fault (OfStore f kind at) write = let no : Store ≡ Write = sym kind ∙ write in cc
+
+-- bytes were read whole of a library with these rows, from files that are honest
+pub anew : {D E : Type 0} {g : Ghosts D} {h : Ghosts E} (conn seen : Held (FileStore D g)) (made : Held (FileStore E h))
+    → ((log db : E) → AreClean h log db) → HasRowsOf (file_state conn) (file_state seen) (file_state made) → IsReadWhole made → IsMadeAnew conn
+anew conn seen made honest (reads, rest) (bytes, files, whole) =
+    let was = whole (honest files.log files.db) in
+    let clean = clean_if_open (view made.store) (shut_if_dirty_at made.store) was.0 in
+    (seen, reads, (rest.0, rest.1, (bytes, (file_state made).committed, rest.2 clean was.0, was.1)))
+
+-- how a copy ends says this of it, and so that
+pub ends_as : {P Q : Type 0} (r : Result (Unit {0}) Fault) → (P → Q) → MatchResult r (λ _. P) (λ fault. fault.kind ≡ Write → P)
+    → MatchResult r (λ _. Q) (λ fault. fault.kind ≡ Write → Q)
+ends_as (Ok done) so is = so is
+ends_as (Err fault) so is = λ write. so (is write)
+
+-- what isn't opened isn't a failure to write either, and what is lost isn't opened
+pub unopened_never : (fault : Fault) → IsUnopened fault → fault.kind ≡ Write → ⊥
+unopened_never fault (inl lost) write = never_write fault lost write
+unopened_never fault (inr kind) write = let no : Store ≡ Write = sym kind ∙ write in cc
+
+pub lost_unopened : (fault : Fault) → IsLost fault ⊎ (fault.kind ≡ Write) → IsUnopened fault ⊎ (fault.kind ≡ Write)
+lost_unopened fault (inl lost) = inl (inl lost)
+lost_unopened fault (inr write) = inr write

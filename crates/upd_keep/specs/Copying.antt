@@ -1,4 +1,4 @@
--- When bytes are the whole of a database, and how a copy of one fails.
+-- When bytes are the whole of a database, how a copy of one fails, and what a library is that is made anew.
 use Rattle.std.specs.Prelude.{◌≡◌, ◌⊎◌, ℕ, false, List, [], IsTrue}
 use Rattle.sqlite_disk.specs.Disk.{MoreFaults}
 use Rattle.sqlite_disk.specs.declared.Disk.{Ghosts}
@@ -9,8 +9,15 @@ use Rattle.sqlite_trees.specs.View.{IsClean}
 use Rattle.sqlite_store.specs.declared.store.FileStore.{FileStore}
 use Rattle.sqlite_store.specs.FileStore.{faults, view}
 use Rattle.sqlite.specs.Closing.{IsCopied}
+use Rattle.sqlite.specs.Effect.{Database}
 use Rattle.sqlite.specs.Files.{HoldsDatabase, file_state}
 use Rattle.sqlite.specs.Held.{Held}
+use Rattle.sqlite.specs.State.{State, HasCleanDisk}
+use Rattle.upd_records.specs.Rows.{Rows}
+use Rattle.upd_sql.specs.LibraryTables.{ShowsTables}
+use Rattle.upd_keep.specs.Examining.{Reads}
+use Rattle.upd_keep.specs.Replaying.{AreStoredTables}
+use Rattle.upd_keep.specs.declared.run_history.StoredTables.{StoredTables}
 
 -- a file with these bytes, and without a log, holds the database
 abbrev pub IsWholeCopy : List ℕ → Trees → Type 0
@@ -37,3 +44,21 @@ module _ {D : Type 0} {g : Ghosts D} (conn : Held (FileStore D g)) where
   -- why there is no copy, apart from memory
   abbrev pub FailsToCopy : Type 0
   FailsToCopy = FailsToClose ⊎ FailsToReadFile
+
+-- all that a database can show are these rows, with their runs in this order
+abbrev pub ShowsOnly : StoredTables → Database → Type 0
+ShowsOnly all db = (it : Rows) → ShowsTables it db → AreStoredTables it all
+
+-- so it is of what was committed
+abbrev pub HasOnlyRows : StoredTables → State → Type 0
+HasOnlyRows all made = HasCleanDisk made → IsTrue made.is_open → ShowsOnly all made.committed
+
+-- a library was only read, and what was read of it is all that another shows
+abbrev pub HasRowsOf : State → State → State → Type 0
+HasRowsOf old seen made = Reads old seen × ((all : StoredTables) × (HasCleanDisk seen → ShowsOnly all old.committed) × HasOnlyRows all made)
+
+-- The library in a connection was only read, and bytes were made that are a whole database. What was read is all that both show.
+abbrev pub IsMadeAnew : {D : Type 0} {g : Ghosts D} → Held (FileStore D g) → Type 0
+IsMadeAnew {D} {g} conn = (seen : Held (FileStore D g)) × Reads (file_state conn) (file_state seen)
+    × ((all : StoredTables) × (HasCleanDisk (file_state seen) → ShowsOnly all (file_state conn).committed)
+    × ((bytes : List ℕ) × (made : Database) × ShowsOnly all made × IsWholeCopy bytes made.trees))

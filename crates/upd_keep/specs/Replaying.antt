@@ -11,7 +11,7 @@ use Rattle.upd_sql.specs.LibraryTables.{ShowsTables}
 use Rattle.upd_desk.specs.Arrivals.{ArrivalView, arrival_view}
 use Rattle.upd_desk.specs.Journal.{Came, Journal, answer, library_after}
 use Rattle.upd_keep.specs.Examining.{Reads}
-use Rattle.upd_store.specs.declared.tree_reads.StoredRuns.{StoredRuns}
+use Rattle.upd_row_store.specs.declared.store.StoredRuns.{StoredRuns}
 use Rattle.upd_keep.specs.declared.run_history.StoredTables.{StoredTables}
 use Rattle.upd_keep.specs.declared.replaying.Replayed.{Replayed}
 use Rattle.upd_keep.specs.declared.replaying.Replayed.TheVariants.{Same, Other}

@@ -12,9 +12,9 @@ use sqlite::{Connection, Error};
 use std::alloc::Global;
 use upd_core::States;
 use upd_records::LibraryRows;
+use upd_row_store::StoredRuns;
 use upd_sql::{stored_library_rows, stored_states};
 use upd_sqlite::Rising;
-use upd_store::StoredRuns;
 
 /// The rows of all tables of a library.
 #[derive(Debug, Drop)]

@@ -1,10 +1,11 @@
-//! What whoever keeps a library asks of its file: the stored runs, the sites, a whole copy, whether it is sound, and
-//! whether its stored runs make it again.
+//! What whoever keeps a library asks of its file: a whole copy, one made anew, whether it is sound, and whether its stored
+//! runs make it again.
 //!
 //! Lists are read in a transaction that is rolled back. Nothing changes.
 #![tactic(auto)]
 
 mod all_rows;
+mod compacting;
 mod copying;
 mod crash_law;
 mod file_examination;
@@ -17,9 +18,9 @@ mod situation;
 mod stored_replies;
 mod versions;
 
+pub use compacting::compact;
 pub use copying::{backup, whole_copy};
 pub use crash_law::crash_after_arrival;
 pub use file_examination::{Examined, Report, examine, examine_tables};
 pub use replaying::{Replayed, replay_tables};
-pub use run_reads::{Listed, list_text, list_text_below, stored_kept};
 pub use situation::Situation;

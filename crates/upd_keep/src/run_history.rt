@@ -13,9 +13,9 @@ use sqlite::{Alter, Connection, Error, Transaction};
 use std::alloc::Global;
 use upd_core::States;
 use upd_records::LibraryRows;
+use upd_row_store::StoredRuns;
 use upd_sql::{marks_in, runs_in_turn, stored_library_rows, stored_states};
 use upd_sqlite::{Rising, begin};
-use upd_store::StoredRuns;
 
 /// The rows of a library, and its stored runs in the order in which they were stored.
 #[derive(Debug, Drop)]

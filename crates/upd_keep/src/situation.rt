@@ -53,13 +53,14 @@ impl Situation {
                 "everybody may write its folder, and so put another file or log there: `chmod o-w` or `chmod +t` on the folder"
             }
             Situation::ForeignLog => {
-                "the log beside it, FILE-wal, is another user's, who may be at work: let that user run `upd spool FILE </dev/null`, or move it away"
+                "the log beside it, FILE-wal, is another user's, who may be at work: once that user has run `upd spool FILE </dev/null`, remove it"
             }
             Situation::ClosedLog => {
                 "the log beside it, FILE-wal, can't be opened: let the user read and write it; a folder or a link there must go"
             }
             Situation::Empty => "the file is empty: `upd init` makes a library in it",
-            Situation::NotSqlite => "this is not a database of SQLite: check the path",
+            Situation::NotSqlite =>
+                "this is not a database of SQLite: check the path; after an `upd init` that was ended, call it again",
             Situation::NoPermission => {
                 "no permission to read it: let the user read and write the file and its folder"
             }
@@ -73,7 +74,7 @@ impl Situation {
                 "it is in use by another command or a server: try again once that has ended"
             }
             Situation::Damaged => {
-                "the file is damaged: restore a backup; `sqlite3 FILE 'PRAGMA integrity_check'` says more"
+                "the file is damaged, or another program wrote it: restore a backup, or make it anew of `sqlite3 FILE .dump`; `sqlite3 FILE 'PRAGMA integrity_check'` says more"
             }
             Situation::BreaksRules => {
                 "a database with tables or rows that upd can't take, or a damaged one: check the path, or restore a backup"

@@ -14,15 +14,15 @@ use Rattle.upd_text.specs.declared.fault.FaultKind.TheVariants.{NoMemory}
 use Rattle.std.specs.Net.Grammar.{IsSocketText}
 use Rattle.upd_words.specs.Operands.{IsNoAddress, card_read, name_read, number_read}
 use Rattle.upd_words.specs.declared.words.Request.{Request}
-use Rattle.upd_words.specs.declared.words.Request.TheVariants.{Trial, Init, Library, Runs, Sites, Backup, Examine, Replay, Migrate, Explain, Shown, Unread}
+use Rattle.upd_words.specs.declared.words.Request.TheVariants.{Trial, Init, Library, Backup, Compact, Examine, Replay, Migrate, Explain, Shown, Unread}
 use Rattle.upd_words.specs.declared.words.Request.TheVariants.{NoAddress}
 use Rattle.upd_words.specs.declared.words.Command.{Command}
 use Rattle.upd_words.specs.declared.words.Command.TheVariants.{Run, Settle, Spool, Serve, Correct, CorrectAt, CorrectParts, Try, Ask}
 use Rattle.upd_words.specs.declared.words.Endpoint.{Endpoint}
 use Rattle.upd_words.specs.declared.words.Endpoint.TheVariants.{Address, Path}
 use Rattle.upd_words.specs.declared.querying.Query.{Query}
-use Rattle.upd_words.specs.declared.querying.Query.TheVariants.{Compile, Deck, Card, Idents, Yanks, View}
-use Rattle.upd_words.specs.declared.querying.View.TheVariants.{Blame, Ident, Page, Text as PlainText, TextAt, Source}
+use Rattle.upd_words.specs.declared.querying.Query.TheVariants.{Compile, Deck, Card, Idents, Yanks, Show, Runs, Sites, View}
+use Rattle.upd_words.specs.declared.querying.View.TheVariants.{Blame, Page, Text as PlainText, TextAt, Source}
 
 -- an operand's name, and what its word has to be
 abbrev pub Operand : Type 0
@@ -76,6 +76,7 @@ upd_commands =
     ∷ (codes "runs", word_of (codes "FILE") ∷ [])
     ∷ (codes "sites", word_of (codes "FILE") ∷ [])
     ∷ (codes "backup", word_of (codes "FILE") ∷ word_of (codes "COPY") ∷ [])
+    ∷ (codes "compact", word_of (codes "FILE") ∷ word_of (codes "COPY") ∷ [])
     ∷ (codes "examine", word_of (codes "FILE") ∷ [])
     ∷ (codes "replay", word_of (codes "FILE") ∷ [])
     ∷ (codes "migrate", word_of (codes "FILE") ∷ [])
@@ -95,8 +96,8 @@ IsOther name (other ∷ others) = (name ≢ other) × IsOther name others
 -- the commands that do not use the desk of a library, and those that serve
 abbrev pub file_commands : List Text
 file_commands =
-    codes "trial" ∷ codes "init" ∷ codes "serve" ∷ codes "serve-local" ∷ codes "runs" ∷ codes "sites" ∷ codes "backup" ∷ codes "examine"
-    ∷ codes "replay" ∷ codes "migrate" ∷ codes "explain" ∷ []
+    codes "trial" ∷ codes "init" ∷ codes "serve" ∷ codes "serve-local" ∷ codes "backup" ∷ codes "compact" ∷ codes "examine" ∷ codes "replay"
+    ∷ codes "migrate" ∷ codes "explain" ∷ []
 
 -- those that use it for more than a text about the library, but for those that serve
 abbrev pub desk_commands : List Text
@@ -151,8 +152,10 @@ query_name (Deck name) = codes "list"
 query_name (Card card) = codes "history"
 query_name Idents = codes "idents"
 query_name Yanks = codes "yanks"
+query_name (Show name) = codes "show"
+query_name Runs = codes "runs"
+query_name Sites = codes "sites"
 query_name (View (Blame name)) = codes "blame"
-query_name (View (Ident name)) = codes "show"
 query_name (View Page) = codes "page"
 query_name (View (PlainText name)) = codes "text"
 query_name (View (TextAt name since)) = codes "text-at"
@@ -162,8 +165,8 @@ query_name (View (Source name)) = codes "source"
 abbrev pub HasQueried : List Row → Query → Type 0
 HasQueried rows (Deck name) = name_read (operand_in (codes "DECK") rows) ≡ Ok name
 HasQueried rows (Card card) = card_read (operand_in (codes "CARD") rows) ≡ Ok card
+HasQueried rows (Show name) = name_read (operand_in (codes "IDENT") rows) ≡ Ok name
 HasQueried rows (View (Blame name)) = name_read (operand_in (codes "DECK") rows) ≡ Ok name
-HasQueried rows (View (Ident name)) = name_read (operand_in (codes "IDENT") rows) ≡ Ok name
 HasQueried rows (View (PlainText name)) = name_read (operand_in (codes "DECK") rows) ≡ Ok name
 HasQueried rows (View (TextAt name since)) =
     (name_read (operand_in (codes "DECK") rows) ≡ Ok name) × (name_read (operand_in (codes "SINCE") rows) ≡ Ok since)
@@ -226,9 +229,8 @@ abbrev pub request_name : Request → Text
 request_name (Trial mode) = codes "trial"
 request_name (Init file) = codes "init"
 request_name (Library file command) = command_name command
-request_name (Runs file) = codes "runs"
-request_name (Sites file) = codes "sites"
 request_name (Backup file copy) = codes "backup"
+request_name (Compact file copy) = codes "compact"
 request_name (Examine file) = codes "examine"
 request_name (Replay file) = codes "replay"
 request_name (Migrate file) = codes "migrate"
@@ -241,9 +243,8 @@ abbrev pub AreOperands : List Row → Request → Type 0
 AreOperands rows (Trial mode) = mode.now ≡ operand_in (codes "MODE") rows
 AreOperands rows (Init file) = file.now ≡ operand_in (codes "FILE") rows
 AreOperands rows (Library file command) = (file.now ≡ operand_in (codes "FILE") rows) × HasOperands rows command
-AreOperands rows (Runs file) = file.now ≡ operand_in (codes "FILE") rows
-AreOperands rows (Sites file) = file.now ≡ operand_in (codes "FILE") rows
 AreOperands rows (Backup file copy) = (file.now ≡ operand_in (codes "FILE") rows) × (copy.now ≡ operand_in (codes "COPY") rows)
+AreOperands rows (Compact file copy) = (file.now ≡ operand_in (codes "FILE") rows) × (copy.now ≡ operand_in (codes "COPY") rows)
 AreOperands rows (Examine file) = file.now ≡ operand_in (codes "FILE") rows
 AreOperands rows (Replay file) = file.now ≡ operand_in (codes "FILE") rows
 AreOperands rows (Migrate file) = file.now ≡ operand_in (codes "FILE") rows

@@ -9,9 +9,9 @@ use clap::Command;
 use clap::builder::ValueParser;
 use std::alloc::{AllocError, Global};
 
-/// The program with its first twenty-seven commands.
+/// The program with its first twenty-eight commands.
 pub(crate) fn seventh_commands<'a>(alloc: Global) -> Result<Command<'a>, AllocError>
-    ensures { IfOk result (λ c. app_of c ≡ app_with (take 27 upd_commands)) }
+    ensures { IfOk result (λ c. app_of c ≡ app_with (take 28 upd_commands)) }
 {
     const COPY: Operand = (
         "COPY",
@@ -21,7 +21,8 @@ pub(crate) fn seventh_commands<'a>(alloc: Global) -> Result<Command<'a>, AllocEr
     let app = sixth_commands(alloc)?;
     let app = with_command(app, alloc, "runs", RUNS, &[FILE])?;
     let app = with_command(app, alloc, "sites", SITES, &[FILE])?;
-    with_command(app, alloc, "backup", BACKUP, &[FILE, COPY])
+    let app = with_command(app, alloc, "backup", BACKUP, &[FILE, COPY])?;
+    with_command(app, alloc, "compact", COMPACT, &[FILE, COPY])
 }
 
 /// The program with its first twenty-four commands.
@@ -211,6 +212,21 @@ or the library failed. The fault is one line on standard error.
 
 Example, after `upd init library.db`:
   upd backup library.db copy.db",
+};
+
+const COMPACT: Text = Text {
+    about: "Makes a library anew in another file, with the same rows and no free space",
+    more: "\
+Reads the library in FILE, and makes one with the same rows in the new file COPY, as `upd init` makes
+it: its pages have sums, so that a changed byte is noticed. The rows of both are compared first. COPY
+must not exist, nor COPY-wal or COPY.part. The library stays, and no other command may have it open.
+Nothing is read from standard input or written to standard output.
+
+Exit status: 0 done; 2 the command line can't be read; 3 COPY exists or can't be made, out of memory,
+or the library failed. The fault is one line on standard error.
+
+Example, after `upd init library.db`:
+  upd compact library.db small.db",
 };
 
 pub(crate) const EXAMINE: Text = Text {

@@ -20,6 +20,12 @@ pub enum Query {
     Card(CardRef),
     Idents,
     Yanks,
+    /// What an ident did, and the run that introduced it.
+    Show(Name),
+    /// The stored runs.
+    Runs,
+    /// The sites that have a stored run or have settled.
+    Sites,
     View(View),
 }
 
@@ -28,8 +34,6 @@ pub enum Query {
 pub enum View {
     /// The cards of a deck, each with who switched it last.
     Blame(Name),
-    /// What an ident did.
-    Ident(Name),
     /// The library as a page of HTML.
     Page,
     /// The active cards of a deck as plain text.
@@ -55,7 +59,9 @@ pub(crate) fn read_query(command: &str, operands: &ArgMatches<'_>) -> Result<Que
         "idents" => Ok(Query::Idents),
         "yanks" => Ok(Query::Yanks),
         "blame" => Ok(Query::View(View::Blame(name(operands, "DECK")?))),
-        "show" => Ok(Query::View(View::Ident(name(operands, "IDENT")?))),
+        "show" => Ok(Query::Show(name(operands, "IDENT")?)),
+        "runs" => Ok(Query::Runs),
+        "sites" => Ok(Query::Sites),
         "page" => Ok(Query::View(View::Page)),
         "text" => Ok(Query::View(View::Text(name(operands, "DECK")?))),
         "text-at" => Ok(Query::View(View::TextAt {
@@ -165,7 +171,8 @@ const SHOW: Text = Text {
     about: "Shows what a deck or a correction set did: its cards, what it switched, what it yanks",
     more: "\
 Reads nothing, and writes a line for each card that IDENT added, switched off or on, or yanks with,
-and for each live card that yanks it. Changes nothing.
+and for each live card that yanks it. The last line is the run that added IDENT with its message, as
+long as that run is stored and has one. Changes nothing.
 
 Exit status: 0 done; 1 IDENT is not a name, or nothing of this name is held; 2 the command line can't
 be read; 3 out of memory, or the library or a write failed. The fault is one line on standard error.

@@ -27,12 +27,10 @@ pub enum Request<'a> {
     Init(&'a str),
     /// A command at the desk of the library in a file.
     Library { file: &'a str, command: Command<'a> },
-    /// `runs FILE`
-    Runs(&'a str),
-    /// `sites FILE`
-    Sites(&'a str),
     /// `backup FILE COPY`
     Backup { file: &'a str, copy: &'a str },
+    /// `compact FILE COPY`
+    Compact { file: &'a str, copy: &'a str },
     /// `examine FILE`
     Examine(&'a str),
     /// `replay FILE`
@@ -131,9 +129,11 @@ fn read_command<'a>(name: &str, operands: &ArgMatches<'a>) -> Result<Request<'a>
         "init" => Ok(Request::Init(word(operands, "FILE"))),
         "serve" => Ok(read_serving(operands)),
         "serve-local" => Ok(serving(operands, Endpoint::Path(word(operands, "PATH")))),
-        "runs" => Ok(Request::Runs(word(operands, "FILE"))),
-        "sites" => Ok(Request::Sites(word(operands, "FILE"))),
         "backup" => Ok(Request::Backup {
+            file: word(operands, "FILE"),
+            copy: word(operands, "COPY"),
+        }),
+        "compact" => Ok(Request::Compact {
             file: word(operands, "FILE"),
             copy: word(operands, "COPY"),
         }),

@@ -23,7 +23,7 @@ returns-in_ok-name-in_default c =
     q.not-yanks) q.not-page) q.not-text) q.not-text-2 in
     let at_source = skip (skip (skip (skip (skip (skip after_text_at d.1.1.1.1.0) d.1.1.1.1.1.0) d.1.1.1.1.1.1.0) d.1.1.1.1.1.1.1.0)
     d.1.1.1.1.1.1.1.1.0) d.1.0 in (
-      last at_source (λ later. skip (skip (skip (skip (skip (skip (skip later f.1.1.1.1.0) f.1.1.1.1.1.0) f.1.1.1.1.1.1.0) f.1.1.1.1.1.1.1.0)
-          f.1.1.1.1.1.1.1.1.0) f.1.1.1.1.1.1.1.1.1.0) f.1.1.1.1.1.1.1.1.1.1.0),
+      last at_source (λ later. skip (skip (skip (skip (skip (skip (skip (skip later q.not-runs) q.not-sites) f.1.1.1.1.0) f.1.1.1.1.1.0)
+          f.1.1.1.1.1.1.0) f.1.1.1.1.1.1.1.0) f.1.1.1.1.1.1.1.1.0) f.1.1.1.1.1.1.1.1.1.0),
       sym c.name-in_default.ensures ∙ c.in_ok-name-in_default.was,
     )
