@@ -155,11 +155,12 @@ def refusals(library):
     old, new = unique(900, "OLD"), unique(1900, "NEW")
     add_deck(library, "A", old, "BASE")
     text = "*DECK A\n" + "".join(f"{line}\n" for line in new)
-    library.sent("LYON", 5, "*/ USED\n")
+    for number in (5, 7):
+        library.sent("LYON", number, "*/ USED\n")
     library.sent("ROME", 5, "*/ SETTLED\n")
     library.said("settle", "ROME", "5")
     library.sent("PARIS", 1, "*IDENT N2\n*IDENT T1\n")
-    tries = {"a number that is used": ("S", "LYON", "5"), "one that a later part would need": ("S", "LYON", "4"), "one that is settled": ("S", "ROME", "3"),
+    tries = {"a number that is used": ("S", "LYON", "5"), "one that a later part would need": ("S", "LYON", "6"), "one that is settled": ("S", "ROME", "3"),
              "an empty set": ("", "LYON", "10"), "one too long": ("ABCDEFGHI", "LYON", "10"), "the second name taken": ("N", "LYON", "10"),
              "the first name taken": ("T", "LYON", "10"), "the last number passed": ("S", "LYON", "999999999")}
     bad, words = 0, {}

@@ -128,14 +128,15 @@ begin() {
     number=$((number + 1))
 }
 
-# Makes the runs of a text that is too long for one, in a copy of a library from which all is purged that came after SINCE.
+# Makes the runs of a text that is too long for one, in a copy of a library from which all is purged that came after SINCE. The purge
+# has the site's last number: that of a part must be free.
 cut_text() {
     rm -rf "$work/past" "$work/past-wal" "$work/frames" && mkdir "$work/frames" && ask backup -- "$1" "$work/past" || exit 3
     later=$(since=$since awk '
         $NF == "purged" { next }
         first && $1 > first { print $2; exit }
         $2 == ENVIRON["since"] { first = $1 }' "$work/held")
-    if [ -n "$later" ]; then printf '*PURGE %s,*\n' "$later" | ask run -- "$work/past" "$site" "$number" quick >"$work/reply" || exit 3; fi
+    if [ -n "$later" ]; then printf '*PURGE %s,*\n' "$later" | ask run -- "$work/past" "$site" 999999999 quick >"$work/reply" || exit 3; fi
     name_set 7 '[0-9]*'
     ask correct-parts -- "$work/past" "$set" "$site" "$number" "$mode" <"$2" >"$work/spool" || return 1
     awk -v folder="$work/frames" '

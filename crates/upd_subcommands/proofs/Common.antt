@@ -1,5 +1,5 @@
 -- What the proofs of this crate share: the words of its definitions and of those below, and the lemmas that more than one proof cites.
-pub use Rattle.std.proofs.Common.{IsErrAnd}
+pub use Rattle.std.proofs.Common.{IsErrAnd, None, Some, below_more, false}
 pub use Rattle.upd_compile.proofs.Common.{FileView, Global, Vec}
 pub use Rattle.upd_core.proofs.Common.{[], ℕ, ◌++◌, ◌+◌, ◌<◌, ◌∙◌, ◌∷◌, ◌≡◌, ◌≤◌, AllByRecursion, List, Option, ap, append_assoc, arith, common_steps}
 pub use Rattle.upd_core.proofs.Common.{flat_map, get_or, length, map, refl, rules, subst, sym, take}

@@ -1,10 +1,20 @@
--- Frames of runs, one after the other.
-use Rattle.upd_subcommands.proofs.Common.{◌≡◌, ℕ, ◌+◌, List, [], ◌∷◌, ◌++◌, length, refl, sym, ap, ◌∙◌, subst, arith, append_assoc, AllByRecursion}
-use Rattle.upd_subcommands.proofs.Common.{arrival_view, frame_text, frames_text, IsAdmitted, frames_from}
-use Rattle.std.proofs.Common.{suc, codes}
-use Rattle.std.proofs.lemmas.List.{flat_map_more}
+-- Frames of runs, one after the other, and their numbers.
+use Rattle.upd_subcommands.proofs.Common.{◌≡◌, ℕ, ◌+◌, ◌<◌, ◌≤◌, ◌⊎◌, List, [], ◌∷◌, ◌++◌, length, refl, sym, ap, ◌∙◌, subst, arith, append_assoc, AllByRecursion}
+use Rattle.upd_subcommands.proofs.Common.{arrival_view, frame_text, frames_text, IsAdmitted, frames_from, inl, inr, cases_lt, Option, None, Some, Keeps, Ghosts, Vec, Global, map, Result, Ok, Err, IsErrAnd, Fault}
+use Rattle.upd_subcommands.proofs.Common.{EditError, Failed, Refused}
+use Rattle.std.proofs.Common.{IfErr, suc, codes}
+use Rattle.std.proofs.lemmas.List.{flat_map_more, length-map}
+use Rattle.upd_correct.specs.Parts.{CorrectsInParts}
 use Rattle.upd_deck.proofs.GrammarParts.{all_append}
+use Rattle.upd_desk.specs.Holding.{EachHeld}
+use Rattle.upd_desk.specs.Journal.{Journal, library_after}
+use Rattle.upd_edit.specs.EditCauses.{IsEditLoss, IsPartsRefusal}
+use Rattle.upd_edit.specs.declared.editing.TheConstants.{MAX_TEXT_BYTES}
+use Rattle.upd_subcommands.proofs.TriedLemmas.{held_still}
+use Rattle.upd_subcommands.specs.Parts.{IsFirstUsed, IsFreeSpool, IsSpoolFailure, IsSpoolFault, IsSpoolRefusal, IsSpoolTo, IsUsedError}
+use Rattle.upd_text.specs.Faults.{fault_at}
 use Rattle.upd_text.specs.Units.{Bytes}
+use Rattle.upd_text.specs.declared.fault.FaultKind.TheVariants.{RunLong}
 
 frames_more : (site : Bytes) (n : ℕ) (mode : Bytes) (runs : List Bytes) (run : Bytes)
     → frames_from site n mode (runs ++ run ∷ []) ≡ frames_from site n mode runs ++ arrival_view site (n + length runs) mode run ∷ []
@@ -36,3 +46,71 @@ pub frame_made : (old s1 s2 s3 s4 s5 site digits mode size run : Bytes) → s1 �
     → s3 ≡ s2 ++ (mode ++ 32 ∷ []) → s4 ≡ s3 ++ (size ++ 10 ∷ []) → s5 ≡ s4 ++ (run ++ 10 ∷ [])
     → s5 ≡ old ++ ((codes "RUN" ++ 32 ∷ (site ++ 32 ∷ (digits ++ 32 ∷ (mode ++ 32 ∷ size)))) ++ 10 ∷ (run ++ 10 ∷ []))
 frame_made old s1 s2 s3 s4 s5 site digits mode size run e1 e2 e3 e4 e5 = rw e5 (rw e4 (rw e3 (rw e2 (rw e1 (simp append_assoc refl)))))
+
+-- ---- refusals
+
+-- a fault of a frame, where `?` passes it on
+pub passed_fault : {A : Type 0} (site : Bytes) (number : ℕ) (mode : Bytes) (result : Result A Fault) (fault : Fault) → IsErrAnd result (λ e. e ≡ fault)
+    → IsSpoolFault site number mode fault → IfErr result (IsSpoolFault site number mode)
+passed_fault site number mode (Ok x) fault is why = absurd is
+passed_fault site number mode (Err e) fault is why = subst (IsSpoolFault site number mode) (sym is) why
+
+pub parts_refusal : (j : Journal) (set site : Bytes) (number : ℕ) (mode text : Bytes) (error : EditError) → IsPartsRefusal (library_after j) set text error
+    → IsSpoolRefusal j set site number mode text error
+parts_refusal j set site number mode text (Failed fault) is = tt
+parts_refusal j set site number mode text (Refused refusals) is = inl is
+
+pub parts_failure : (site : Bytes) (number : ℕ) (mode text : Bytes) (error : EditError) → IsEditLoss text error
+    → (MAX_TEXT_BYTES < length text → error ≡ Failed (fault_at RunLong 0)) → IsSpoolFailure site number mode text error
+parts_failure site number mode text (Refused refusals) lost long = tt
+parts_failure site number mode text (Failed fault) lost long = by (cases_lt MAX_TEXT_BYTES (length text))
+  where
+    by : (MAX_TEXT_BYTES < length text) ⊎ (length text ≤ MAX_TEXT_BYTES) → IsSpoolFailure site number mode text (Failed fault)
+    by (inl more) = let is = long more in inr (more, cc)
+    by (inr few) = inl (inl (lost few))
+
+pub used_failure : (site : Bytes) (number : ℕ) (mode text : Bytes) (used : ℕ) (error : EditError) → IsUsedError used error
+    → IsSpoolFailure site number mode text error
+used_failure site number mode text used (Failed fault) is = inl (inl is)
+used_failure site number mode text used (Refused refusals) is = tt
+
+-- what was found of the numbers of a spool
+abbrev pub IsSeen : Journal → Bytes → Bytes → ℕ → Bytes → Bytes → Bytes → Option ℕ → Type 0
+IsSeen j set site number mode text spool used = (made : IsSpoolTo (library_after j) set site number mode text spool)
+    × IsFirstUsed j site number (number + length made.runs) used
+
+pub used_refusal : (j : Journal) (set site : Bytes) (number : ℕ) (mode text spool : Bytes) (used : ℕ) (error : EditError) → IsUsedError used error
+    → IsSeen j set site number mode text spool (Some used) → IsSpoolRefusal j set site number mode text error
+used_refusal j set site number mode text spool used (Failed fault) is seen = tt
+used_refusal j set site number mode text spool used (Refused refusals) is seen =
+    inr (record { spool = spool; made = seen.0; used = used; first = seen.1; problem = is })
+
+pub seen_free : (j : Journal) (set site : Bytes) (number : ℕ) (mode text spool : Bytes) → IsSeen j set site number mode text spool None
+    → IsFreeSpool j set site number mode text spool
+seen_free j set site number mode text spool seen = record { made = seen.0; free = seen.1 }
+
+-- the bytes of runs
+abbrev pub bytes_of : List (Vec ℕ Global) → List Bytes
+bytes_of runs = map (λ run. run.items) runs
+
+module _ {S : Type 0} (meaning : Ghosts S) where
+  open meaning use {is_honest}
+
+  -- a spool was made, and then its numbers were looked at
+  pub spool_seen : (set given site : Bytes) (number end : ℕ) (mode text spool : Bytes) (runs shown : List (Vec ℕ Global)) (found used : Option ℕ)
+      (old mid new : S) → given ≡ set → shown ≡ runs → found ≡ used → Keeps meaning old mid → Keeps meaning mid new
+      → EachHeld meaning old mid (λ j. CorrectsInParts (library_after j) given text (bytes_of runs))
+      → spool ≡ frames_text (frames_from site number mode (bytes_of shown)) → AllByRecursion IsAdmitted (frames_from site number mode (bytes_of shown))
+      → EachHeld meaning mid new (λ j. IsFirstUsed j site number end found) → end ≡ number + length runs
+      → EachHeld meaning old new (λ j. IsSeen j set site number mode text spool used)
+  spool_seen set given site number end mode text spool runs shown found used old mid new same all is first last corrects frames admitted seen count honest j held =
+      let before : is_honest mid = last.later.honest honest in (
+        record {
+          runs = bytes_of runs;
+          corrects = subst (λ s. CorrectsInParts (library_after j) s text (bytes_of runs)) same (corrects before j held);
+          frames = subst (λ vecs. spool ≡ frames_text (frames_from site number mode (bytes_of vecs))) all frames;
+          admitted = subst (λ vecs. AllByRecursion IsAdmitted (frames_from site number mode (bytes_of vecs))) all admitted;
+        },
+        subst (λ e. IsFirstUsed j site number e used) (count ∙ ap (λ k. number + k) (sym (length-map runs (λ run. run.items))))
+            (subst (λ o. IsFirstUsed j site number end o) is (seen honest j (held_still meaning old mid first before j held))),
+      )

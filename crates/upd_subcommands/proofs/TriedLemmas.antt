@@ -13,7 +13,7 @@ module _ {S : Type 0} (meaning : Ghosts S) where
   open meaning use {shows, image, is_open, is_honest}
 
   -- what a read leaves holds the journals that were held before
-  held_still : (old mid : S) → Keeps meaning old mid → is_honest mid → (journal : Journal) → IsHeld meaning journal old → IsHeld meaning journal mid
+  pub held_still : (old mid : S) → Keeps meaning old mid → is_honest mid → (journal : Journal) → IsHeld meaning journal old → IsHeld meaning journal mid
   held_still old mid keeps honest journal held = λ is.
       subst (HoldsIn shows journal) (sym (keeps.same honest is)) (held (keeps.later.was_open honest is))
 

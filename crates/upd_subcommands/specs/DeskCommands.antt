@@ -6,12 +6,13 @@ use Rattle.upd_text.specs.Faults.{fault_at}
 use Rattle.upd_text.specs.declared.fault.Fault.{Fault}
 use Rattle.upd_text.specs.declared.fault.FaultKind.TheVariants.{IdentUnknown, RunLong}
 use Rattle.upd_core.specs.Library.{LibraryView}
+use Rattle.upd_records.specs.Rows.{Rows, RunView}
 use Rattle.upd_row_store.specs.declared.meaning.Meaning.{Ghosts}
-use Rattle.upd_row_store.specs.Keeping.{CountsFailure, Keeps}
+use Rattle.upd_row_store.specs.Keeping.{CountsFailure, FindsRows, IsLost, IsShown, Keeps}
 use Rattle.upd_compile.specs.File.{FileView, compile_file_of}
 use Rattle.upd_compile.specs.Listings.{card_listing, deck_listing, ident_listing, yank_listing}
 use Rattle.upd_compile.specs.declared.mode.Mode.TheVariants as mode
-use Rattle.upd_desk.specs.Holding.{Arrives, EachHeld, Settles, Tells}
+use Rattle.upd_desk.specs.Holding.{Arrives, EachHeld, IsHeld, IsOwed, Settles, Tells}
 use Rattle.upd_desk.specs.Outcomes.{ReplyView, reply_on}
 use Rattle.upd_subcommands.specs.Command.{Ending, ending}
 use Rattle.upd_subcommands.specs.Status.{no_memory, read_failed}
@@ -27,15 +28,15 @@ use Rattle.upd_edit.specs.Conditions.{ArrivesSince}
 use Rattle.upd_edit.specs.Warnings.{warning_list}
 use Rattle.upd_edit.specs.declared.warning.Warning.{Warning}
 use Rattle.upd_edit.specs.declared.editing.TheConstants.{MAX_TEXT_BYTES}
-use Rattle.upd_edit.specs.EditCauses.{IsAnswerIn, IsEditCause, IsEditLoss, edited_in, failures_after_edit}
+use Rattle.upd_edit.specs.EditCauses.{IsAnswerIn, edited_in, failures_after_edit}
 use Rattle.upd_edit.specs.declared.editing.EditError.{EditError}
 use Rattle.upd_edit.specs.declared.editing.EditError.TheVariants.{Failed}
-use Rattle.upd_correct.specs.Correcting.{CorrectsTo}
-use Rattle.upd_correct.specs.Refusals.{refusals_of}
 use Rattle.upd_views.specs.Blame.{blame}
 use Rattle.upd_views.specs.IdentReport.{show}
 use Rattle.upd_views.specs.LibraryPage.{page}
-use Rattle.upd_desk.specs.Journal.{library_after}
+use Rattle.upd_views.specs.RunLines.{IsRunList}
+use Rattle.upd_views.specs.SiteLines.{AreSiteLines}
+use Rattle.upd_desk.specs.Journal.{Journal, library_after}
 use Rattle.upd_wire.specs.Spools.{Ends}
 use Rattle.upd_wire.specs.Serving.{LeadsThrough, Made}
 use Rattle.upd_subcommands.specs.Listening.{ReportsServing}
@@ -43,7 +44,7 @@ use Rattle.upd_words.specs.declared.words.Command.{Command}
 use Rattle.upd_words.specs.declared.words.Endpoint.{Endpoint}
 use Rattle.upd_words.specs.declared.words.Command.TheVariants.{Run, Settle, Spool, Serve, Correct, CorrectAt, CorrectParts, Try, Ask}
 use Rattle.upd_words.specs.declared.querying.Query.{Query}
-use Rattle.upd_words.specs.declared.querying.Query.TheVariants.{Compile, Deck, Card, Idents, Yanks, View}
+use Rattle.upd_words.specs.declared.querying.Query.TheVariants.{Compile, Deck, Card, Idents, Yanks, Show, Runs, Sites, View}
 use Rattle.upd_words.specs.declared.querying.View as views
 use Rattle.upd_words.specs.declared.querying.View.TheVariants as view
 
@@ -54,20 +55,10 @@ file_text file = result_map_both (λ f. f.bytes) (λ fault. fault) file
 -- a view of a library
 abbrev pub view_text : views.View → LibraryView → Result (List ℕ) Fault
 view_text (view.Blame name) l = blame name l
-view_text (view.Ident name) l = show name l
 view_text view.Page l = Ok (page l)
 view_text (view.Text name) l = active_text name l
 view_text (view.TextAt name since) l = text_since name since l
 view_text (view.Source name) l = file_text (source name l)
-
--- what a query is answered of a library
-abbrev pub query_text : Query → LibraryView → Result (List ℕ) Fault
-query_text Compile l = file_text (compile_file_of mode.Full [] l l)
-query_text (Deck name) l = deck_listing name l
-query_text (Card card) l = card_listing card l
-query_text Idents l = Ok (ident_listing l)
-query_text Yanks l = Ok (yank_listing l)
-query_text (View view) l = view_text view l
 
 -- the input can't be read, or there is no memory for it
 abbrev pub IsUnread : Result ℕ Fault → Type 0
@@ -119,27 +110,17 @@ module _ {S : Type 0} (meaning : Ghosts S) where
       (answer : Result ReplyView Fault) × (warnings : Result (List Warning) Fault) × IsTriedAs mode since run answer warnings old new
       × ((text : Result (List ℕ) Fault) × AreTexts warnings text × ReportsTried answer text end)
 
-  -- An edited text is answered by a run that leads decks of the library to it, or by what is wrong with it. A failure is a loss, or the text is too long.
-  -- Nothing is changed.
-  pub record IsCorrection (set text : List ℕ) (answer : Result (List ℕ) EditError) (old new : S) : Type 0 where
-    pub corrects : EachHeld meaning old new (λ journal. IfOk answer (CorrectsTo (library_after journal) set text))
-    pub clean : EachHeld meaning old new (λ journal. OnOk answer (refusals_of (library_after journal) set text ≡ []))
-    pub refused : EachHeld meaning old new (λ journal. IfErr answer (IsEditCause (library_after journal) set text))
-    pub lost : IfErr answer (IsEditLoss text)
-    pub short : OnOk answer (length text ≤ MAX_TEXT_BYTES)
+  -- An edited text, which may have been taken when an ident was the youngest, is answered by a run, or by why there is none. Nothing is changed.
+  pub record IsCorrection (since : Option (List ℕ)) (set text : List ℕ) (answer : Result (List ℕ) EditError) (old new : S) : Type 0 where
+    pub answers : EachHeld meaning old new (λ journal. IsAnswerIn (edited_in text since (library_after journal)) set text answer)
     pub long : MAX_TEXT_BYTES < length text → IfErr answer (λ error. error ≡ Failed (fault_at RunLong 0))
     pub same : Keeps meaning old new
     pub counts : meaning.failures_of new ≡ failures_after_edit answer (meaning.failures_of old)
 
-  -- an edited text was answered by a run, and the answer was told
-  abbrev pub CorrectsText : List ℕ → List ℕ → S → S → Ending → Type 0
-  CorrectsText set text old new end = (answer : Result (List ℕ) EditError) × IsCorrection set text answer old new × ReportsCorrection answer end
-
-  -- an edited text that was taken when an ident was the youngest was answered by a run, and the answer was told; nothing is changed
-  abbrev pub CorrectsSince : List ℕ → List ℕ → List ℕ → S → S → Ending → Type 0
-  CorrectsSince since set text old new end = (answer : Result (List ℕ) EditError)
-      × EachHeld meaning old new (λ journal. IsAnswerIn (edited_in text since (library_after journal)) set text answer)
-      × Keeps meaning old new × (meaning.failures_of new ≡ failures_after_edit answer (meaning.failures_of old)) × ReportsCorrection answer end
+  -- it was answered so, and the answer was told
+  abbrev pub CorrectsText : Option (List ℕ) → List ℕ → List ℕ → S → S → Ending → Type 0
+  CorrectsText since set text old new end =
+      (answer : Result (List ℕ) EditError) × IsCorrection since set text answer old new × ReportsCorrection answer end
 
   -- a site was settled, and its mark was told
   abbrev pub SettlesSite : List ℕ → ℕ → Result ℕ Fault → S → S → Option (List ℕ) → Option (List ℕ) → Type 0
@@ -147,9 +128,26 @@ module _ {S : Type 0} (meaning : Ghosts S) where
       (answer : Result ℕ Fault) × Settles meaning site number answer old new
       × CountsFailure meaning answer old new × ReportsMark site answer result output output'
 
+  -- A query about stored runs answers what is defined of the runs that the store shows, and of the library after any journal that it holds.
+  abbrev pub TellsOfRuns : {A : Type 0} → (List RunView → LibraryView → Result A Fault) → Result A Fault → S → S → Type 0
+  TellsOfRuns defined result old new = meaning.is_honest new → (journal : Journal) → IsHeld meaning journal old → (rows : Rows)
+      → IsShown meaning rows old → IsOwed (defined rows.runs (library_after journal)) result
+
+  -- what a query is answered
+  abbrev pub TellsQuery : Query → Result (List ℕ) Fault → S → S → Type 0
+  TellsQuery Compile answer old new = Tells meaning (λ l. file_text (compile_file_of mode.Full [] l l)) answer old new
+  TellsQuery (Deck name) answer old new = Tells meaning (deck_listing name) answer old new
+  TellsQuery (Card card) answer old new = Tells meaning (card_listing card) answer old new
+  TellsQuery Idents answer old new = Tells meaning (λ l. Ok (ident_listing l)) answer old new
+  TellsQuery Yanks answer old new = Tells meaning (λ l. Ok (yank_listing l)) answer old new
+  TellsQuery (Show name) answer old new = TellsOfRuns (show name) answer old new
+  TellsQuery Runs answer old new = FindsRows meaning answer old new (λ rows text. IsRunList rows.runs text) × IfErr answer IsLost
+  TellsQuery Sites answer old new = FindsRows meaning answer old new (λ rows text. AreSiteLines rows.runs rows.settled text) × IfErr answer IsLost
+  TellsQuery (View view) answer old new = Tells meaning (view_text view) answer old new
+
   -- a query was answered, and nothing is changed
   pub record IsAnswered (query : Query) (answer : Result (List ℕ) Fault) (old new : S) : Type 0 where
-    pub tells : Tells meaning (query_text query) answer old new
+    pub tells : TellsQuery query answer old new
     pub same : Keeps meaning old new
     pub counts : CountsFailure meaning answer old new
 
@@ -181,9 +179,9 @@ module _ {S : Type 0} (meaning : Ghosts S) where
   Does Spool text ended old new input output faults = EndsSpool ended old new (before input) (after input) (before output) (after output)
   Does (Serve endpoint count) text ended old new input output faults = EndsServing endpoint count ended old new (before faults) (after faults)
   Does (Correct set) text ended old new input output faults =
-      IsOkAnd ended (λ status. CorrectsText set.now text old new (ending status (before output) (after output) (before faults) (after faults)))
+      IsOkAnd ended (λ status. CorrectsText None set.now text old new (ending status (before output) (after output) (before faults) (after faults)))
   Does (CorrectAt set since) text ended old new input output faults =
-      IsOkAnd ended (λ status. CorrectsSince since set.now text old new (ending status (before output) (after output) (before faults) (after faults)))
+      IsOkAnd ended (λ status. CorrectsText (Some since) set.now text old new (ending status (before output) (after output) (before faults) (after faults)))
   Does (CorrectParts set site number mode) text ended old new input output faults =
       IsOkAnd ended (λ status. CorrectsParts meaning set.now site.now number mode.now text old new
       (ending status (before output) (after output) (before faults) (after faults)))

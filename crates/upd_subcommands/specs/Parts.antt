@@ -1,18 +1,25 @@
 -- The spool of `correct-parts`: its frames, and how it is reported.
-use Rattle.std.specs.Prelude.{◌≡◌, ℕ, ◌+◌, List, [], ◌∷◌, Result, Ok, IfErr, IfOk}
+use Rattle.std.specs.Prelude.{◌≡◌, ℕ, ◌+◌, ◌<◌, ◌≤◌, ◌⊎◌, true, false, List, [], ◌∷◌, length, Option, None, Some, Result, Ok, Err, IfErr, IfOk}
 use Rattle.std.specs.List.{AllByRecursion}
+use Rattle.upd_text.specs.Faults.{fault_at}
 use Rattle.upd_text.specs.Units.{Bytes}
+use Rattle.upd_text.specs.declared.fault.Fault.{Fault}
+use Rattle.upd_text.specs.declared.fault.FaultKind.TheVariants.{RunLong}
 use Rattle.upd_core.specs.Library.{LibraryView}
 use Rattle.upd_compile.specs.declared.mode.Mode.{Mode}
 use Rattle.upd_row_store.specs.declared.meaning.Meaning.{Ghosts}
-use Rattle.upd_row_store.specs.Keeping.{Keeps}
-use Rattle.upd_correct.specs.Parts.{CorrectsInParts}
+use Rattle.upd_row_store.specs.Keeping.{IsLost, Keeps}
+use Rattle.upd_correct.specs.Causes.{refusal_at_0}
+use Rattle.upd_correct.specs.Parts.{ArePartsRefusals, CorrectsInParts}
+use Rattle.upd_correct.specs.declared.refusal.Problem.TheVariants.{NumberUsed}
+use Rattle.upd_correct.specs.declared.refusal.Refusal.{Refusal}
 use Rattle.upd_desk.specs.Arrivals.{ArrivalView, arrival_view, check_arrival}
 use Rattle.upd_desk.specs.Holding.{EachHeld}
-use Rattle.upd_desk.specs.Journal.{library_after}
+use Rattle.upd_desk.specs.Journal.{Journal, is_known, library_after}
 use Rattle.upd_wire.specs.Frames.{frames_text}
-use Rattle.upd_edit.specs.EditCauses.{IsPartsRefusal}
 use Rattle.upd_edit.specs.declared.editing.EditError.{EditError}
+use Rattle.upd_edit.specs.declared.editing.EditError.TheVariants.{Failed, Refused}
+use Rattle.upd_edit.specs.declared.editing.TheConstants.{MAX_TEXT_BYTES}
 use Rattle.upd_subcommands.specs.Command.{Ending}
 use Rattle.upd_subcommands.specs.Correcting.{ReportsCorrection}
 
@@ -32,11 +39,61 @@ pub record IsSpoolTo (l : LibraryView) (set site : Bytes) (number : ℕ) (mode t
   pub frames : spool ≡ frames_text (frames_from site number mode runs)
   pub admitted : AllByRecursion IsAdmitted (frames_from site number mode runs)
 
+-- ---- numbers
+
+-- a site has neither used nor settled a number from one on and below another
+abbrev pub AreFree : Journal → Bytes → ℕ → ℕ → Type 0
+AreFree journal site number end = (n : ℕ) → n < end → number ≤ n → is_known journal site n ≡ false
+
+-- the first of these numbers that it has used or settled, if there is one
+abbrev pub IsFirstUsed : Journal → Bytes → ℕ → ℕ → Option ℕ → Type 0
+IsFirstUsed journal site number end None = AreFree journal site number end
+IsFirstUsed journal site number end (Some used) =
+    (number ≤ used) × (used < end) × (is_known journal site used ≡ true) × AreFree journal site number used
+
+-- A spool whose numbers are free.
+pub record IsFreeSpool (journal : Journal) (set site : Bytes) (number : ℕ) (mode text spool : Bytes) : Type 0 where
+  pub made : IsSpoolTo (library_after journal) set site number mode text spool
+  pub free : AreFree journal site number (number + length made.runs)
+
+-- ---- refusals
+
+-- A spool was made, and is refused for the first of its numbers that is used or settled.
+pub record IsUsedSpool (journal : Journal) (set site : Bytes) (number : ℕ) (mode text : Bytes) (refusals : List Refusal) : Type 0 where
+  pub spool : Bytes
+  pub made : IsSpoolTo (library_after journal) set site number mode text spool
+  pub used : ℕ
+  pub first : IsFirstUsed journal site number (number + length made.runs) (Some used)
+  pub problem : refusals ≡ refusal_at_0 (NumberUsed used) ∷ []
+
+-- a text is refused as in parts, or for a number
+abbrev pub IsSpoolRefusal : Journal → Bytes → Bytes → ℕ → Bytes → Bytes → EditError → Type 0
+IsSpoolRefusal journal set site number mode text (Failed fault) = Unit {0}
+IsSpoolRefusal journal set site number mode text (Refused refusals) =
+    ArePartsRefusals (library_after journal) set text refusals.items ⊎ IsUsedSpool journal set site number mode text refusals.items
+
+-- the error of a number that is used or settled; memory for it may be out
+abbrev pub IsUsedError : ℕ → EditError → Type 0
+IsUsedError number (Failed fault) = IsLost fault
+IsUsedError number (Refused refusals) = refusals.items ≡ refusal_at_0 (NumberUsed number) ∷ []
+
+-- the frames of a spool fail by a loss, or by the admission checks of one of them
+abbrev pub IsSpoolFault : Bytes → ℕ → Bytes → Fault → Type 0
+IsSpoolFault site number mode fault = IsLost fault
+    ⊎ ((n : ℕ) × (run : Bytes) × (number ≤ n) × (check_arrival (arrival_view site n mode run) ≡ Err fault))
+
+-- a failure is that of the frames, or the text is too long
+abbrev pub IsSpoolFailure : Bytes → ℕ → Bytes → Bytes → EditError → Type 0
+IsSpoolFailure site number mode text (Failed fault) =
+    IsSpoolFault site number mode fault ⊎ ((MAX_TEXT_BYTES < length text) × (fault ≡ fault_at RunLong 0))
+IsSpoolFailure site number mode text (Refused refusals) = Unit {0}
+
 module _ {S : Type 0} (meaning : Ghosts S) where
-  -- An edited text is answered by such a spool, or by what is wrong with it. Nothing is changed.
+  -- An edited text is answered by such a spool of free numbers, or by what is wrong with it or with them. Nothing is changed.
   pub record IsPartsAnswer (set site : Bytes) (number : ℕ) (mode text : Bytes) (answer : Result Bytes EditError) (old new : S) : Type 0 where
-    pub spool : EachHeld meaning old new (λ journal. IfOk answer (IsSpoolTo (library_after journal) set site number mode text))
-    pub refused : EachHeld meaning old new (λ journal. IfErr answer (IsPartsRefusal (library_after journal) set text))
+    pub spool : EachHeld meaning old new (λ journal. IfOk answer (IsFreeSpool journal set site number mode text))
+    pub refused : EachHeld meaning old new (λ journal. IfErr answer (IsSpoolRefusal journal set site number mode text))
+    pub failed : IfErr answer (IsSpoolFailure site number mode text)
     pub same : Keeps meaning old new
 
   -- an edited text was answered by a spool, and the answer was told

@@ -3,7 +3,7 @@ ghost use Rattle.std.specs.Prelude.{◌≡◌, ◌⊎◌, Ok};
 ghost use Rattle.std.specs.Result.{result_map_both};
 ghost use Rattle.upd_subcommands.specs.Command.{ending};
 ghost use Rattle.upd_subcommands.specs.Correcting.{IsRefusedBy, ReportsCorrection};
-ghost use Rattle.upd_subcommands.specs.DeskCommands.{CorrectsSince, CorrectsText};
+ghost use Rattle.upd_subcommands.specs.DeskCommands.{CorrectsText};
 
 use crate::exit_status::{DONE, FAILED, REFUSED, finish};
 use crate::streams::write_out;
@@ -11,45 +11,28 @@ use std::alloc::Global;
 use std::io::Write;
 use upd_correct::Refusal;
 use upd_desk::Desk;
-use upd_edit::{EditError, correct_at, correct_since, refusal_lines};
+use upd_edit::{EditError, correct_at, refusal_lines};
 use upd_row_store::RowStore;
 use upd_text::{Fault, Name};
 
-/// The run that leads decks to an edited text goes to the output. Where there is none, a line for each refusal, or that of
-/// a fault, goes to the fault stream. Returns the exit status: 0 for a run, 1 for refusals, and that of the fault.
+/// The run that leads decks to an edited text, which may have been taken when an ident was the youngest, goes to the
+/// output. Where there is none, a line for each refusal, or that of a fault, goes to the fault stream. Returns the exit
+/// status: 0 for a run, 1 for refusals, and that of the fault.
 pub(crate) fn correct_text<S: RowStore, W: Write, E: Write>(
     alloc: Global,
     desk: &mut Desk<S>,
+    since: Option<Name>,
     set: &str,
     text: &[u8],
     output: &mut W,
     faults: &mut E,
 ) -> u8
-    ensures reports { CorrectsText S.Meaning set.now text.now desk.old.store desk.new.store
+    ensures reports { CorrectsText S.Meaning since set.now text.now desk.old.store desk.new.store
         (ending result (W.contents output.old) (W.contents output.new) (E.contents faults.old) (E.contents faults.new)) }
     ensures silent { (result ≡ 1) ⊎ (result ≡ 2) → output.new ≡ output.old }
     ensures clean { result ≡ 0 → faults.new ≡ faults.old }
 {
-    let answer = correct_at(alloc, desk, set.as_bytes(), text);
-    report_correction(alloc, answer, output, faults)
-}
-
-/// The same for a text that was taken when an ident was the youngest.
-pub(crate) fn correct_text_since<S: RowStore, W: Write, E: Write>(
-    alloc: Global,
-    desk: &mut Desk<S>,
-    since: &Name,
-    set: &str,
-    text: &[u8],
-    output: &mut W,
-    faults: &mut E,
-) -> u8
-    ensures reports { CorrectsSince S.Meaning since.now set.now text.now desk.old.store desk.new.store
-        (ending result (W.contents output.old) (W.contents output.new) (E.contents faults.old) (E.contents faults.new)) }
-    ensures silent { (result ≡ 1) ⊎ (result ≡ 2) → output.new ≡ output.old }
-    ensures clean { result ≡ 0 → faults.new ≡ faults.old }
-{
-    let answer = correct_since(alloc, desk, since, set.as_bytes(), text);
+    let answer = correct_at(alloc, desk, since, set.as_bytes(), text);
     report_correction(alloc, answer, output, faults)
 }
 

@@ -10,7 +10,7 @@ ghost use Rattle.upd_text.specs.declared.fault.Fault.{Fault};
 ghost use Rattle.upd_text.specs.declared.limits.TheConstants.{MAX_RUN_BYTES};
 
 use crate::arriving::{hand_in, hand_in_since, settle, try_run};
-use crate::correction_command::{correct_text, correct_text_since};
+use crate::correction_command::correct_text;
 use crate::exit_status::DONE;
 use crate::listening::{report_path, report_place};
 use crate::local_socket::bind_local;
@@ -87,9 +87,17 @@ pub fn carry_out_at<S: RowStore, R: Read, W: Write, E: Write>(
         Command::Settle { site, number } => settle(alloc, desk, site, *number, output),
         Command::Spool => read_spool(alloc, desk, input, output),
         Command::Serve { endpoint, count } => serve(rt, endpoint, *count, desk, faults),
-        Command::Correct { set } => Ok(correct_text(alloc, desk, set, text, output, faults)),
-        Command::CorrectAt { set, since } => Ok(correct_text_since(
-            alloc, desk, since, set, text, output, faults,
+        Command::Correct { set } => {
+            Ok(correct_text(alloc, desk, None, set, text, output, faults))
+        }
+        Command::CorrectAt { set, since } => Ok(correct_text(
+            alloc,
+            desk,
+            Some(*since),
+            set,
+            text,
+            output,
+            faults,
         )),
         Command::CorrectParts {
             set,

@@ -1,13 +1,12 @@
 //! `correct-parts`: from an edited text to a spool on the output.
-ghost use Rattle.std.specs.Prelude.{◌≡◌, ◌<◌, ◌⊎◌, ◌++◌, ◌∷◌, [], IfErr, IfOk, Ok, OnOk, map};
+ghost use Rattle.std.specs.Prelude.{◌≡◌, ◌+◌, ◌<◌, ◌≤◌, ◌⊎◌, ◌++◌, ◌∷◌, [], Err, IfErr, IfOk, Ok, OnOk, length, map};
 ghost use Rattle.std.specs.List.{AllByRecursion};
-ghost use Rattle.upd_desk.specs.Arrivals.{arrival_view};
+ghost use Rattle.upd_desk.specs.Arrivals.{arrival_view, check_arrival};
 ghost use Rattle.upd_desk.specs.Holding.{EachHeld};
-ghost use Rattle.upd_desk.specs.Journal.{library_after};
-ghost use Rattle.upd_edit.specs.EditCauses.{IsPartsRefusal};
-ghost use Rattle.upd_row_store.specs.Keeping.{Keeps};
+ghost use Rattle.upd_row_store.specs.Keeping.{IsLost, Keeps};
 ghost use Rattle.upd_subcommands.specs.Command.{ending};
-ghost use Rattle.upd_subcommands.specs.Parts.{CorrectsParts, IsAdmitted, IsSpoolTo, frames_from};
+ghost use Rattle.upd_subcommands.specs.Parts.{CorrectsParts, IsAdmitted, IsFirstUsed, IsFreeSpool, IsSpoolFailure, IsSpoolFault, IsSpoolRefusal};
+ghost use Rattle.upd_subcommands.specs.Parts.{IsUsedError, frames_from};
 ghost use Rattle.upd_wire.specs.Frames.{frame_text, frames_text};
 
 use crate::correction_command::report_correction;
@@ -16,6 +15,7 @@ use std::alloc::{AllocError, Global};
 use std::io::Write;
 use upd_compile::Mode;
 use upd_compile::text_parts::push_parts;
+use upd_correct::{Problem, Refusal};
 use upd_desk::Desk;
 use upd_edit::{EditError, parts_at};
 use upd_row_store::RowStore;
@@ -25,7 +25,8 @@ use upd_text::{Fault, FaultKind};
 
 /// The spool of runs that lead decks to an edited text one after the other goes to the output, for a site and from a
 /// number on. Where there is none, nothing does, and the fault stream says why, as for `correct`; BadSite, BadNumber and
-/// BadMode, at 0, are also faults. Returns the exit status.
+/// BadMode, at 0, are also faults, and NumberUsed is a problem: the site has used or settled one of the numbers. Returns
+/// the exit status.
 pub(crate) fn correct_text_in_parts<S: RowStore, W: Write, E: Write>(
     alloc: Global,
     desk: &mut Desk<S>,
@@ -46,7 +47,7 @@ pub(crate) fn correct_text_in_parts<S: RowStore, W: Write, E: Write>(
     report_correction(alloc, answer, output, faults)
 }
 
-/// The spool for an edited text.
+/// The spool for an edited text, if its numbers are free.
 fn spool_at<S: RowStore>(
     alloc: Global,
     desk: &mut Desk<S>,
@@ -57,17 +58,64 @@ fn spool_at<S: RowStore>(
     text: &[u8],
 ) -> Result<Vec<u8>, EditError>
     ensures spool { EachHeld S.Meaning desk.old.store desk.new.store
-        (λ journal. IfOk result (λ spool. IsSpoolTo (library_after journal) set.now site.now number mode.now text.now spool.items)) }
+        (λ journal. IfOk result (λ spool. IsFreeSpool journal set.now site.now number mode.now text.now spool.items)) }
     ensures refused { EachHeld S.Meaning desk.old.store desk.new.store
-        (λ journal. IfErr result (IsPartsRefusal (library_after journal) set.now text.now)) }
+        (λ journal. IfErr result (IsSpoolRefusal journal set.now site.now number mode.now text.now)) }
+    ensures failed { IfErr result (IsSpoolFailure site.now number mode.now text.now) }
     ensures same { Keeps S.Meaning desk.old.store desk.new.store }
 {
     match parts_at(alloc, desk, set.as_bytes(), text) {
         Ok(runs) => match spool_of(alloc, site, number, mode, &runs) {
-            Ok(spool) => Ok(spool),
+            Ok(spool) => {
+                let end = number + runs.len() as u64;
+                match first_used(alloc, desk, site, number, end) {
+                    Ok(None) => Ok(spool),
+                    Ok(Some(used)) => Err(number_used(alloc, used)),
+                    Err(fault) => Err(EditError::Failed(fault)),
+                }
+            }
             Err(fault) => Err(EditError::Failed(fault)),
         },
         Err(error) => Err(error),
+    }
+}
+
+/// The first number of a range that a site has used or settled.
+fn first_used<S: RowStore>(
+    alloc: Global,
+    desk: &mut Desk<S>,
+    site: &str,
+    number: u64,
+    end: u64,
+) -> Result<Option<u64>, Fault>
+    ensures first { EachHeld S.Meaning desk.old.store desk.new.store
+        (λ journal. IfOk result (IsFirstUsed journal site.now number end)) }
+    ensures lost { IfErr result IsLost }
+    ensures same { Keeps S.Meaning desk.old.store desk.new.store }
+{
+    for next in number..end {
+        match desk.is_known(alloc, site, next) {
+            Ok(false) => {}
+            Ok(true) => return Ok(Some(next)),
+            Err(fault) => return Err(fault),
+        }
+    }
+    Ok(None)
+}
+
+/// The error of a number that is used or settled.
+fn number_used(alloc: Global, number: u64) -> EditError
+    ensures { IsUsedError number result }
+{
+    let mut refusals = Vec::new(alloc);
+    let pushed = refusals.push(Refusal {
+        line: 0,
+        column: 0,
+        problem: Problem::NumberUsed(number),
+    });
+    match pushed {
+        Ok(()) => EditError::Refused(refusals),
+        Err(error) => EditError::Failed(Fault::from(error)),
     }
 }
 
@@ -83,6 +131,8 @@ fn spool_of(
         ≡ frames_text (frames_from site.now number mode.now (map (λ run. run.items) runs.now))) }
     ensures admitted { OnOk result (AllByRecursion IsAdmitted
         (frames_from site.now number mode.now (map (λ run. run.items) runs.now))) }
+    ensures fits { OnOk result (number + length runs.now ≤ 1000000000) }
+    ensures refused { IfErr result (IsSpoolFault site.now number mode.now) }
 {
     let mut spool = Vec::new(alloc);
     check_frame(site, number, mode, b"")?;
@@ -119,6 +169,7 @@ fn push_frame(
 fn check_frame(site: &str, number: u64, mode: &str, run: &[u8]) -> Result<(), Fault>
     ensures admitted { OnOk result (IsAdmitted (arrival_view site.now number mode.now run.now)) }
     ensures fits { OnOk result (number < 1000000000) }
+    ensures refused { IfErr result (λ fault. check_arrival (arrival_view site.now number mode.now run.now) ≡ Err fault) }
 {
     if !is_site(site.as_bytes()) {
         return Err(FaultKind::BadSite.without_line());

@@ -9,6 +9,7 @@ returns-clause-reports g c =
       record {
         spool = λ honest journal held. if_ok found _ (made.spool honest journal held);
         refused = λ honest journal held. if_err found _ (made.refused honest journal held);
+        failed = if_err found _ made.failed;
         same = made.same;
       },
       c.report_correction.ensures.reports,

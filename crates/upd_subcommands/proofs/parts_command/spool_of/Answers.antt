@@ -1,7 +1,8 @@
 use Rattle.upd_subcommands.proofs.Common.{◌≡◌, ◌+◌, ◌<◌, ◌++◌, ◌∷◌, [], List, ℕ, Vec, Global, get_or, length, map, take, sym, ap, ◌∙◌, subst, arith}
-use Rattle.upd_subcommands.proofs.Common.{AllByRecursion, arrival_view, frame_text, frames_text, IsAdmitted, frames_from}
+use Rattle.upd_subcommands.proofs.Common.{AllByRecursion, IsErrAnd, arrival_view, frame_text, frames_text, IsAdmitted, frames_from, inl, no_memory, refl, rules}
 use Rattle.upd_correct.proofs.ListLemmas.{mapped_more, taken_count}
-use Rattle.upd_subcommands.proofs.PartLemmas.{admitted_more, text_more}
+use Rattle.upd_row_store.proofs.KeepingLemmas.{memory_is_lost}
+use Rattle.upd_subcommands.proofs.PartLemmas.{admitted_more, passed_fault, text_more}
 use Rattle.upd_subcommands.proofs.parts_command.spool_of.Goals as goal
 
 -- the bytes of the first runs
@@ -23,6 +24,7 @@ loop-run-preserved c =
     c.loop-run.invariant.next ∙ ap (λ k. c.args.number + k) (sym (taken_count (λ (v : Vec ℕ Global). v.items) runs i c.loop-run-test.true)) in
     record {
       next = omega (arith, c.loop-run.invariant.next);
+      fits = omega (arith, c.in_ok-check_frame-2.ensures.fits);
       frames = subst (λ all. c.push_frame.new.spool.items ≡ frames_text (frames_from c.args.site.now c.args.number c.args.mode.now all)) more
           (text_more c.args.site.now c.args.number c.loop-run.next c.args.mode.now (first_runs i runs) c.run-item.result.items c.loop-run.spool.items
           c.push_frame.new.spool.items count c.loop-run.invariant.frames
@@ -34,3 +36,8 @@ loop-run-preserved c =
           (subst (λ run. IsAdmitted (arrival_view c.args.site.now c.loop-run.next c.args.mode.now run)) c.deref.ensures.value
           c.in_ok-check_frame-2.ensures.admitted));
     }
+
+pub returns-in_err-push_frame-clause-refused : goal.returns-in_err-push_frame-clause-refused
+returns-in_err-push_frame-clause-refused c =
+    let is : IsErrAnd c.from_residual-in_err-push_frame.result (λ e. e ≡ no_memory) = search rules in
+    passed_fault c.args.site.now c.args.number c.args.mode.now c.from_residual-in_err-push_frame.result no_memory is (inl (memory_is_lost no_memory refl))

@@ -1,9 +1,10 @@
-use Rattle.upd_subcommands.proofs.Common.{◌≡◌, ◌+◌, map, take, AllByRecursion, frames_text, IsAdmitted, frames_from}
+use Rattle.upd_subcommands.proofs.Common.{◌≡◌, ◌+◌, ◌≤◌, map, take, AllByRecursion, frames_text, IsAdmitted, frames_from}
 use Rattle.upd_subcommands.proofs.parts_command.spool_of.Given as goal
 
 abbrev pub invariant-loop-run : goal.invariant-loop-run
 invariant-loop-run l = record {
   next : l.next ≡ l.number + l.run-index;
+  fits : l.next ≤ 1000000000;
   frames : l.spool.items ≡ frames_text (frames_from l.site l.number l.mode (map (λ run. run.items) (take l.run-index l.runs)));
   admitted : AllByRecursion IsAdmitted (frames_from l.site l.number l.mode (map (λ run. run.items) (take l.run-index l.runs)));
 }

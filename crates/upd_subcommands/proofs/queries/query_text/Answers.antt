@@ -1,5 +1,7 @@
-use Rattle.upd_words.specs.declared.querying.Query.TheVariants.{Deck, Card, Idents, Yanks, View}
-use Rattle.upd_subcommands.proofs.QueryAnswers.{answered_as}
+use Rattle.upd_words.specs.declared.querying.Query.TheVariants.{Deck, Card, Idents, Yanks, Show, Runs, Sites, View}
+use Rattle.upd_views.specs.RunLines.{IsRunList}
+use Rattle.upd_views.specs.SiteLines.{AreSiteLines}
+use Rattle.upd_subcommands.proofs.QueryAnswers.{answered_as, seen_rows}
 use Rattle.upd_subcommands.proofs.queries.query_text.Goals as goal
 
 pub returns-in-Deck : goal.returns-in-Deck
@@ -21,6 +23,25 @@ pub returns-in-Yanks : goal.returns-in-Yanks
 returns-in-Yanks g c =
     answered_as (λ text. text.items) c.yank_list.result c.args.query.now Yanks c.args.desk.now.store c.yank_list.new.self.store c.in-Yanks.is
     c.yank_list.ensures.text c.yank_list.ensures.leaves.same c.yank_list.ensures.leaves.failed
+
+pub returns-in-Show : goal.returns-in-Show
+returns-in-Show g c =
+    answered_as (λ text. text.items) c.show_at.result c.args.query.now (Show c.in-Show.name) c.args.desk.now.store c.show_at.new.desk.store c.in-Show.is
+    c.show_at.ensures.text c.show_at.ensures.same c.show_at.ensures.failed
+
+pub returns-in-Runs : goal.returns-in-Runs
+returns-in-Runs g c =
+    answered_as (λ text. text.items) c.runs_at.result c.args.query.now Runs c.args.desk.now.store c.runs_at.new.desk.store c.in-Runs.is
+    (seen_rows g.S.Meaning (λ text. text.items) (λ rows text. IsRunList rows.runs text) c.runs_at.result c.args.desk.now.store c.runs_at.new.desk.store
+    c.runs_at.ensures.lines c.runs_at.ensures.lost)
+    c.runs_at.ensures.same c.runs_at.ensures.failed
+
+pub returns-in-Sites : goal.returns-in-Sites
+returns-in-Sites g c =
+    answered_as (λ text. text.items) c.sites_at.result c.args.query.now Sites c.args.desk.now.store c.sites_at.new.desk.store c.in-Sites.is
+    (seen_rows g.S.Meaning (λ text. text.items) (λ rows text. AreSiteLines rows.runs rows.settled text) c.sites_at.result c.args.desk.now.store
+    c.sites_at.new.desk.store c.sites_at.ensures.lines c.sites_at.ensures.lost)
+    c.sites_at.ensures.same c.sites_at.ensures.failed
 
 pub returns-in-View : goal.returns-in-View
 returns-in-View g c =

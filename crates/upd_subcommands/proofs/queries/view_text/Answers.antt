@@ -1,7 +1,7 @@
 use Rattle.upd_desk.proofs.ArrivesLemmas.{unstored}
 use Rattle.upd_desk.proofs.QueryLemmas.{store_fails}
 use Rattle.upd_edit.specs.Source.{source}
-use Rattle.upd_edit.proofs.ToldLemmas.{source_keeps}
+use Rattle.upd_subcommands.proofs.QueryAnswers.{source_keeps}
 use Rattle.upd_subcommands.proofs.queries.view_text.Goals as goal
 
 pub returns-in-Err-source-clause-kind : goal.returns-in-Err-source-clause-kind
