@@ -1,6 +1,7 @@
 -- What was done for a request.
-use Rattle.std.proofs.Common.{◌≡◌, ◌⊎◌, inl, inr, ℕ, List, Ok, Err, ap, sym, ◌∙◌, subst}
+use Rattle.std.proofs.Common.{◌≡◌, ◌⊎◌, inl, inr, ℕ, List, Ok, Err, Option, ap, sym, ◌∙◌, subst}
 use Rattle.sqlite_disk.specs.declared.Disk.{Ghosts as DiskGhosts}
+use Rattle.sqlite_disk.specs.declared.Files.{Files}
 use Rattle.sqlite_store.specs.declared.store.FileStore.{FileStore}
 use Rattle.sqlite_wal.specs.Recovery.{Image}
 use Rattle.sqlite.specs.Held.{Held}
@@ -18,12 +19,12 @@ shown_status text end (Ok done, ok, front, err, told) = inl told.0
 shown_status text end (Err fault, ok, front, err, inl (meant, line)) = inr (meant ∙ ap (λ (f : Fault). exit_status f.kind) err)
 shown_status text end (Err fault, ok, front, err, inr (three, line)) = inr three
 
-module _ {S D : Type 0} {g : DiskGhosts D} {meaning : Ghosts S} {conn_of : S → Held (FileStore D g)} {held : Image}
-    {T B : Type 0} {b : DiskGhosts B} {below : Ghosts T} {store_of : T → FileStore B b} {first : Image}
+module _ {S D : Type 0} {g : DiskGhosts D} {meaning : Ghosts S} {conn_of : S → Held (FileStore D g)}
+    {T : Type 0} {below : Ghosts T} {store_of : T → FileStore D g} {held : Image} {left : Option (Files D)}
     {R W E : Type 0} {input : Stream R} {output : Stream W} {faults : Stream E} where
   -- what was asked is this request
   pub done_as : (request meant : Request) (status : ℕ) → request ≡ meant
-      → IsDone meaning conn_of held below store_of first input output faults meant status
-      → Carries meaning conn_of held below store_of first input output faults request status
+      → IsDone meaning conn_of below store_of held left input output faults meant status
+      → Carries meaning conn_of below store_of held left input output faults request status
   done_as request meant status is done =
-      subst (λ r. Carries meaning conn_of held below store_of first input output faults r status) (sym is) (record { done = done })
+      subst (λ r. Carries meaning conn_of below store_of held left input output faults r status) (sym is) (record { done = done })

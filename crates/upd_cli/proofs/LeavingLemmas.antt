@@ -1,25 +1,19 @@
 -- What commands leave, and how they fail.
-use Rattle.std.proofs.Common.{◌≡◌, ◌⊎◌, inl, inr, ◌+◌, ℕ, List, Option, Result, Ok, Err, IfErr, IfOk, IsErrAnd, Global, Vec, ap, arith, subst, sym, ◌∙◌}
-use Rattle.std.specs.Result.{result_map_both}
-use Rattle.sqlite_disk.specs.declared.Disk.{Ghosts as DiskGhosts}
-use Rattle.sqlite_wal.specs.Recovery.{Image}
+use Rattle.std.proofs.Common.{◌≡◌, ◌⊎◌, inl, inr, ◌+◌, ℕ, List, Option, Result, Ok, Err, IfErr, IfOk, ap, arith, subst, sym, ◌∙◌}
 use Rattle.upd_text.specs.declared.fault.Fault.{Fault}
 use Rattle.upd_text.specs.declared.fault.FaultKind.TheVariants.{Write}
 use Rattle.upd_text.specs.declared.limits.TheConstants.{MAX_RUN_BYTES}
 use Rattle.upd_row_store.specs.Keeping.{IsLost}
 use Rattle.upd_row_store.specs.Keeping.IsLost.{OfMemory, OfStore}
-use Rattle.upd_keep.specs.declared.run_reads.Listed.{Listed}
 use Rattle.upd_store.specs.Faults.{IsUnopened}
 use Rattle.upd_subcommands.specs.Command.{IsEndOf}
-use Rattle.upd_subcommands.specs.Inputs.{Frames, HandsRuns, IsSpool, UsesFaults, ReadsFirst, WritesRefusals, most_read}
-use Rattle.upd_subcommands.specs.Reporting.{ReportsText}
+use Rattle.upd_subcommands.specs.Inputs.{Frames, HandsRuns, IsSpool, ReadsFirst, most_read}
 use Rattle.upd_subcommands.specs.Status.{exit_status, no_memory, read_failed}
-use Rattle.upd_subcommands.specs.Streams.{Stream, TakesFront, after, before}
+use Rattle.upd_subcommands.specs.Streams.{Stream, TakesFront, before}
 use Rattle.upd_subcommands.proofs.FailingLemmas.{told_no_mistake}
 use Rattle.upd_subcommands.proofs.StreamLemmas.{takes_nothing}
 use Rattle.upd_words.specs.declared.words.Command.{Command}
 use Rattle.upd_words.specs.declared.words.Command.TheVariants.{Run, Settle, Spool, Serve, Correct, CorrectAt, CorrectParts, Try, Ask}
-use Rattle.upd_cli.specs.Stored.{LeavesList}
 
 -- a file that isn't opened ends a command as memory and the store do
 pub unopened_fails : (fault : Fault) → IsUnopened fault → exit_status fault.kind ≡ 3
@@ -27,48 +21,14 @@ unopened_fails fault (inl (OfMemory f is at)) = ap exit_status is
 unopened_fails fault (inl (OfStore f is at)) = ap exit_status is
 unopened_fails fault (inr is) = ap exit_status is
 
--- what is known of an answer is known of its bytes
-pub shown_ok : (answer : Result (Vec ℕ Global) Fault) (P : List ℕ → Type 0) → IfOk answer (λ text. P text.items)
-    → IfOk (result_map_both (λ text. text.items) (λ fault. fault) answer) P
-shown_ok (Ok text) P is = is
-shown_ok (Err fault) P is = is
-
-pub shown_err : (answer : Result (Vec ℕ Global) Fault) (P : Fault → Type 0) → IfErr answer P
-    → IfErr (result_map_both (λ (text : Vec ℕ Global). text.items) (λ fault. fault) answer) P
-shown_err (Ok text) P is = is
-shown_err (Err fault) P is = is
-
--- a list that was told ends with 0, or as a failure
-abbrev pub EndsList : Result ℕ Fault → Type 0
-EndsList ended = IfOk ended (λ status. status ≡ 0) × IfErr ended (λ fault. exit_status fault.kind ≡ 3)
-
-told_ends : (answer : Result (List ℕ) Fault) (ended : Result ℕ Fault) (output output' : Option (List ℕ)) → IfErr answer IsLost
-    → ReportsText answer ended output output' → EndsList ended
-told_ends (Ok text) (Ok status) output output' lost told = (told.0, tt)
-told_ends (Ok text) (Err fault) output output' lost told = (tt, ap (λ (f : Fault). exit_status f.kind) told.0)
-told_ends (Err fault) ended output output' lost told = subst EndsList (sym told.0) (tt, unopened_fails fault (inl lost))
-
-not_opened : (ended : Result ℕ Fault) → IsErrAnd ended IsUnopened → EndsList ended
-not_opened (Ok status) unopened = absurd unopened
-not_opened (Err fault) unopened = (tt, unopened_fails fault unopened)
-
-pub list_ends : {D B : Type 0} (g : DiskGhosts D) (held : Image) (b : DiskGhosts B) (first : Image) (listed : Listed) (ended : Result ℕ Fault)
-    (output output' : Option (List ℕ)) → LeavesList g held b first listed ended output output' → EndsList ended
-list_ends g held b first listed ended output output' (inl (inl asked)) =
-    let (conn, ours, lists) = asked in
-    let (last, reports, left) = lists in
-    let (answer, shows, told) = reports in
-    told_ends answer ended output output' shows.lost told
-list_ends g held b first listed ended output output' (inl (inr unopened)) = not_opened ended unopened.0
-list_ends g held b first listed ended output output' (inr below) =
-    let (store, ours, lists) = below in
-    let (new, answer, shows, told) = lists in
-    told_ends answer ended output output' shows.lost told
-
 -- so does a copy that can't be made
 pub backup_fails : (fault : Fault) → IsLost fault ⊎ (fault.kind ≡ Write) → exit_status fault.kind ≡ 3
 backup_fails fault (inl lost) = unopened_fails fault (inl lost)
 backup_fails fault (inr is) = ap exit_status is
+
+pub compact_fails : (fault : Fault) → IsUnopened fault ⊎ (fault.kind ≡ Write) → exit_status fault.kind ≡ 3
+compact_fails fault (inl unopened) = unopened_fails fault unopened
+compact_fails fault (inr is) = ap exit_status is
 
 -- and an input that isn't read
 pub unread_fails : (fault : Fault) → (fault ≡ no_memory) ⊎ (fault ≡ read_failed) → exit_status fault.kind ≡ 3

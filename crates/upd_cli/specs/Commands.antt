@@ -1,6 +1,8 @@
 -- How commands end: what they do to the library in a file, and what they leave on the output and the fault stream.
-use Rattle.std.specs.Prelude.{◌≡◌, ◌⊎◌, ℕ, Bool, true, false, List, [], ◌++◌, codes, string_bytes, Option, Result, Ok, Err, IfErr, IfOk, OnOk}
+use Rattle.std.specs.Prelude.{◌≡◌, ◌≢◌, ◌⊎◌, ℕ, Bool, true, false, List, [], ◌++◌, codes, string_bytes, Option, Result, Ok, Err, IfErr, IfOk, IsSomeAnd, OnOk}
 use Rattle.std.specs.Io.KnownBytes.{Appends}
+use Rattle.std.specs.declared.io.ErrorKind.{ErrorKind}
+use Rattle.std.specs.declared.io.ErrorKind.TheVariants.{OutOfMemory}
 use Rattle.sqlite_disk.specs.declared.Disk.{Ghosts as DiskGhosts}
 use Rattle.sqlite_disk.specs.declared.Files.{Files}
 use Rattle.sqlite_store.specs.declared.store.FileStore.{FileStore}
@@ -13,6 +15,7 @@ use Rattle.upd_text.specs.declared.fault.Fault.{Fault}
 use Rattle.upd_row_store.specs.declared.meaning.Meaning.{Ghosts}
 use Rattle.upd_wire.specs.Fronts.{AppendsFront}
 use Rattle.upd_wire.specs.Inputs.{IsInput}
+use Rattle.upd_keep.specs.Copying.{IsMadeAnew, IsReadWhole}
 use Rattle.upd_keep.specs.Examining.{ExaminesFile}
 use Rattle.upd_keep.specs.Situations.{words_of}
 use Rattle.upd_keep.specs.declared.file_examination.Examined.TheVariants as examined
@@ -21,20 +24,18 @@ use Rattle.upd_keep.specs.declared.file_examination.Report.TheVariants as report
 use Rattle.upd_subcommands.specs.Command.{Answers, Ending, IsEnd, IsEndOf, IsReported, answer_to}
 use Rattle.upd_subcommands.specs.Explaining.{IsExplained}
 use Rattle.upd_subcommands.specs.Inputs.{Spares}
-use Rattle.upd_subcommands.specs.Status.{exit_status, fault_line, write_failed}
+use Rattle.upd_subcommands.specs.Status.{exit_status, fault_line, no_memory, no_words_line, write_failed}
 use Rattle.upd_subcommands.specs.Streams.{Stream, after, before}
 use Rattle.upd_subcommands.specs.Reporting.{Writes}
 use Rattle.upd_subcommands.specs.Trial.{trial_named}
-use Rattle.upd_cli.specs.Opened.{BacksUp, Closes, MakesLibrary, MigratesLibrary}
+use Rattle.upd_store.specs.OpenedAgain.{Closes}
+use Rattle.upd_cli.specs.Opened.{Copies, MakesLibrary, MigratesLibrary}
 use Rattle.upd_cli.specs.Replayed.{IsReplayed}
-use Rattle.upd_cli.specs.Stored.{LeavesList}
 use Rattle.upd_cli.specs.Works.{Leaves, ending_of}
-use Rattle.upd_keep.specs.declared.run_reads.Listed.{Listed}
-use Rattle.upd_keep.specs.declared.run_reads.Listed.TheVariants as listed
 use Rattle.upd_words.specs.Words.{IsAskedFor, IsUnasked}
 use Rattle.upd_words.specs.declared.words.Command.{Command}
 use Rattle.upd_words.specs.declared.words.Request.{Request}
-use Rattle.upd_words.specs.declared.words.Request.TheVariants.{Trial, Init, Library, Runs, Sites, Backup, Examine, Replay, Migrate, Explain, Shown, Unread}
+use Rattle.upd_words.specs.declared.words.Request.TheVariants.{Trial, Init, Library, Backup, Compact, Examine, Replay, Migrate, Explain, Shown, Unread}
 use Rattle.upd_words.specs.declared.words.Request.TheVariants.{NoAddress}
 
 -- the line that comes first where the log beside a file has frames
@@ -79,37 +80,38 @@ IsShown text end =
 abbrev pub EndsSilently : {A : Type 0} → Result A Fault → ℕ → Option (List ℕ) → Option (List ℕ) → Type 0
 EndsSilently ended status faults faults' = IfErr ended (λ fault. exit_status fault.kind ≡ 3) × IsEnd ended status faults faults'
 
--- Connections to files, and what the file held before.
-module _ {D : Type 0} (g : DiskGhosts D) (held : Image) where
+-- Connections to files, what the file held before, and the files that are left, where they are handed back.
+module _ {D : Type 0} (g : DiskGhosts D) (held : Image) (left : Option (Files D)) where
+  -- the files of this connection were closed, and handed back
+  abbrev pub LeavesFiles : Held (FileStore D g) → Type 0
+  LeavesFiles conn = IsSomeAnd left (λ these. Closes these conn)
+
   -- an empty library was made in the file, which is closed; or that failed
   abbrev pub IsInitialized : ℕ → Option (List ℕ) → Option (List ℕ) → Type 0
-  IsInitialized status faults faults' = (ended : Result (Option (Files D)) Fault)
-      × IfOk ended (λ files. MakesLibrary {g = g} held (Closes files)) × EndsSilently ended status faults faults'
+  IsInitialized status faults faults' = (ended : Result (Unit {0}) Fault)
+      × IfOk ended (λ _. MakesLibrary {g = g} held LeavesFiles) × EndsSilently ended status faults faults'
 
   -- the file was migrated; or that failed
   abbrev pub IsMigrated : ℕ → Option (List ℕ) → Option (List ℕ) → Type 0
   IsMigrated status faults faults' =
-      (ended : Result (Unit {0}) Fault) × MigratesLibrary g held ended × EndsSilently ended status faults faults'
+      (ended : Result (Unit {0}) Fault) × MigratesLibrary g held ended LeavesFiles × EndsSilently ended status faults faults'
 
-  -- a copy of the file was made; or that failed
-  abbrev pub IsBackedUp : ℕ → Option (List ℕ) → Option (List ℕ) → Type 0
-  IsBackedUp status faults faults' =
-      (ended : Result (Unit {0}) Fault) × BacksUp g held ended × EndsSilently ended status faults faults'
+module _ {D : Type 0} (g : DiskGhosts D) (held : Image) where
+  -- a copy of the library was made, as this tells; or that failed
+  abbrev pub IsCopied : (Held (FileStore D g) → Type 0) → ℕ → Option (List ℕ) → Option (List ℕ) → Type 0
+  IsCopied Read status faults faults' =
+      (ended : Result (Unit {0}) Fault) × Copies g Read held ended × EndsSilently ended status faults faults'
 
--- The stores over the file, through SQL and below it: the meaning of each, its connection or its trees, and what the file held when it was opened so.
-module _ {S D : Type 0} {g : DiskGhosts D} (meaning : Ghosts S) (conn_of : S → Held (FileStore D g)) (held : Image)
-    {T B : Type 0} {b : DiskGhosts B} (below : Ghosts T) (store_of : T → FileStore B b) (first : Image)
+-- The stores over the file, through SQL and below it: the meaning of each, and its connection or its trees. What the file held before, and the files that
+-- are left, where they are handed back.
+module _ {S D : Type 0} {g : DiskGhosts D} (meaning : Ghosts S) (conn_of : S → Held (FileStore D g))
+    {T : Type 0} (below : Ghosts T) (store_of : T → FileStore D g) (held : Image) (left : Option (Files D))
     {R W E : Type 0} (input : Stream R) (output : Stream W) (faults : Stream E) where
   -- a command on the library in the file ended, and the fault stream and the status tell how
   abbrev pub IsCarriedOut : Command → ℕ → Type 0
   IsCarriedOut command status = (ended : Result ℕ Fault) × (mid : E)
-      × Leaves meaning conn_of held below store_of first input output (record faults { new = mid }) command ended
+      × Leaves meaning conn_of below store_of held left input output (record faults { new = mid }) command ended
       × IsEndOf ended status (faults.bytes mid) (after faults)
-
-  -- a list was asked, and output, fault stream and status tell how
-  abbrev pub IsListed : Listed → Ending → Type 0
-  IsListed list end =
-      (ended : Result ℕ Fault) × LeavesList g held b first list ended end.output end.output' × IsEndOf ended end.status end.faults end.faults'
 
   -- nothing went to the output
   abbrev pub IsSilent : Type 0
@@ -119,14 +121,13 @@ module _ {S D : Type 0} {g : DiskGhosts D} (meaning : Ghosts S) (conn_of : S →
   abbrev pub IsDone : Request → ℕ → Type 0
   IsDone (Trial mode) status =
       (run : List ℕ) × IsInput (before input) run × Answers (answer_to (trial_named mode.now run)) (ending_of status output faults)
-  IsDone (Init file) status = IsSilent × IsInitialized g held status (before faults) (after faults)
+  IsDone (Init file) status = IsSilent × IsInitialized g held left status (before faults) (after faults)
   IsDone (Library file command) status = IsCarriedOut command status
-  IsDone (Runs file) status = IsListed listed.Runs (ending_of status output faults)
-  IsDone (Sites file) status = IsListed listed.Sites (ending_of status output faults)
-  IsDone (Backup file copy) status = IsSilent × IsBackedUp g held status (before faults) (after faults)
+  IsDone (Backup file copy) status = IsSilent × IsCopied g held IsReadWhole status (before faults) (after faults)
+  IsDone (Compact file copy) status = IsSilent × IsCopied g held IsMadeAnew status (before faults) (after faults)
   IsDone (Examine file) status = IsExamined (file_state {g = g}) held (ending_of status output faults)
   IsDone (Replay file) status = IsReplayed g held (ending_of status output faults)
-  IsDone (Migrate file) status = IsSilent × IsMigrated g held status (before faults) (after faults)
+  IsDone (Migrate file) status = IsSilent × IsMigrated g held left status (before faults) (after faults)
   IsDone (Explain fault) status = IsExplained fault.now (ending_of status output faults)
   IsDone (Shown text) status = ((status ≡ 0) ⊎ (status ≡ 3)) × IsShown (string_bytes text) (ending_of status output faults)
   IsDone (Unread text) status =
@@ -145,3 +146,13 @@ module _ {S D : Type 0} {g : DiskGhosts D} (meaning : Ghosts S) (conn_of : S →
       ((request : Request) × IsAskedFor words request × Carries request status × Spares input output faults request status)
       ⊎ ((fault : Fault) × IsUnasked words fault × IsReported (exit_status fault.kind) (fault_line fault) status (before faults) (after faults)
       × (input.new ≡ input.old) × (output.new ≡ output.old))
+
+module _ {S D : Type 0} {g : DiskGhosts D} (meaning : Ghosts S) (conn_of : S → Held (FileStore D g))
+    {T : Type 0} (below : Ghosts T) (store_of : T → FileStore D g) (held : Image)
+    {R W E : Type 0} (input : Stream R) (output : Stream W) (faults : Stream E) where
+  -- the process ends with the status of the command that its words ask for; or its words can't be read, and only that is reported
+  abbrev pub EndsProcess : ℕ → Type 0
+  EndsProcess status =
+      ((words : List Text) × (left : Option (Files D)) × RunsCommand meaning conn_of below store_of held left input output faults words status)
+      ⊎ ((kind : ErrorKind) × (kind ≡ OutOfMemory → IsReported 3 (fault_line no_memory) status (before faults) (after faults))
+      × (kind ≢ OutOfMemory → IsReported 2 no_words_line status (before faults) (after faults)) × (input.new ≡ input.old) × (output.new ≡ output.old))

@@ -1,12 +1,9 @@
 -- What commands find in a file, and what they make of it. The file is given by the bytes that it and its log held before.
-use Rattle.std.specs.Prelude.{◌≡◌, ◌⊎◌, ℕ, Option, Result, IfErr, IfSome, IsErrAnd, IsTrue, MatchResult, OnErr, OnOk}
+use Rattle.std.specs.Prelude.{◌≡◌, ◌⊎◌, ℕ, Result, IfErr, IsErrAnd, IsTrue, MatchResult, OnErr, OnOk}
 use Rattle.sqlite_disk.specs.declared.Disk.{Ghosts as DiskGhosts}
-use Rattle.sqlite_disk.specs.declared.Files.{Files}
 use Rattle.sqlite_store.specs.declared.store.FileStore.{FileStore}
 use Rattle.sqlite_trees.specs.Tree.{Trees}
-use Rattle.sqlite_wal.specs.Reads.{AreClean}
 use Rattle.sqlite_wal.specs.Recovery.{Image}
-use Rattle.sqlite.specs.Closing.{IsCopied}
 use Rattle.sqlite.specs.Effect.{Database}
 use Rattle.sqlite.specs.Files.{AreFoundIn, HoldsDatabase, file_state}
 use Rattle.sqlite.specs.Held.{Held}
@@ -14,7 +11,6 @@ use Rattle.sqlite.specs.Start.{FindsIn}
 use Rattle.sqlite.specs.State.{State, HasCleanDisk, Survives}
 use Rattle.upd_text.specs.declared.fault.Fault.{Fault}
 use Rattle.upd_text.specs.declared.fault.FaultKind.TheVariants.{Write}
-use Rattle.upd_keep.specs.Copying.{IsReadWhole}
 use Rattle.upd_records.specs.Rows.{Rows}
 use Rattle.upd_row_store.specs.declared.meaning.Meaning.{Ghosts}
 use Rattle.upd_row_store.specs.Keeping.{IsLater, IsShown}
@@ -48,10 +44,6 @@ pub record IsMadeIn (held : Image) (made : State) : Type 0 where
 
 -- Connections to files.
 module _ {D : Type 0} {g : DiskGhosts D} where
-  -- the files of this connection were closed, and hold what it had committed; or they can't be closed
-  abbrev pub Closes : Option (Files D) → Held (FileStore D g) → Type 0
-  Closes closed conn = IfSome closed (λ files. AreClean g files.log files.db → IsCopied conn files)
-
   -- the tables of a connection were migrated, and of the last connection this holds
   abbrev pub MigratesTables : Held (FileStore D g) → Result (Unit {0}) Fault → (Held (FileStore D g) → Type 0) → Type 0
   MigratesTables conn ended Left = (last : Held (FileStore D g)) × MigratesState ended (file_state conn) (file_state last) × Left last
@@ -61,17 +53,17 @@ module _ {D : Type 0} {g : DiskGhosts D} where
   MakesLibrary held Left = (made : Held (FileStore D g)) × IsMadeIn held (file_state made) × Left made
 
 module _ {D : Type 0} (g : DiskGhosts D) where
-  -- the file was opened and migrated; or it can't be opened
-  abbrev pub MigratesLibrary : Image → Result (Unit {0}) Fault → Type 0
-  MigratesLibrary held ended =
+  -- the file was opened and migrated, and of the last connection this holds; or it can't be opened
+  abbrev pub MigratesLibrary : Image → Result (Unit {0}) Fault → (Held (FileStore D g) → Type 0) → Type 0
+  MigratesLibrary held ended Left =
       ((conn : Held (FileStore D g)) × (HasCleanDisk (file_state conn) → FindsIn held (file_state conn))
-      × MigratesTables conn ended (λ _. Unit {0})) ⊎ IsErrAnd ended IsUnopened
+      × MigratesTables conn ended Left) ⊎ IsErrAnd ended IsUnopened
 
-  -- the library in the file was read whole for a copy, where there is one; or it can't be opened
-  abbrev pub BacksUp : Image → Result (Unit {0}) Fault → Type 0
-  BacksUp held ended =
+  -- this holds of the library in the file, where a copy of it was made or can't be written; or it can't be opened
+  abbrev pub Copies : (Held (FileStore D g) → Type 0) → Image → Result (Unit {0}) Fault → Type 0
+  Copies Read held ended =
       ((conn : Held (FileStore D g)) × IsLibraryIn held (file_state conn)
-      × MatchResult ended (λ _. IsReadWhole conn) (λ fault. fault.kind ≡ Write → IsReadWhole conn)) ⊎ IsErrAnd ended IsUnopened
+      × MatchResult ended (λ _. Read conn) (λ fault. fault.kind ≡ Write → Read conn)) ⊎ IsErrAnd ended IsUnopened
 
 module _ {S : Type 0} (meaning : Ghosts S) where
   open meaning use {is_honest, is_open, may_leave}

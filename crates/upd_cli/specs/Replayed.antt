@@ -1,5 +1,5 @@
 -- What `replay` does with the library in a file, and what it reports.
-use Rattle.std.specs.Prelude.{◌≡◌, ◌⊎◌, ℕ, [], Result, Ok, Err, IsErrAnd}
+use Rattle.std.specs.Prelude.{◌⊎◌, ℕ, [], Result, Ok, Err, IsErrAnd}
 use Rattle.std.specs.Io.KnownBytes.{Appends}
 use Rattle.sqlite_disk.specs.declared.Disk.{Ghosts as DiskGhosts}
 use Rattle.sqlite_store.specs.declared.store.FileStore.{FileStore}

@@ -1,20 +1,19 @@
 //! Carries out a command line over any input, output and fault stream.
 ghost use Rattle.std.specs.Prelude.{◌≡◌, ◌≢◌, ◌⊎◌, ◌+◌, map};
 ghost use Rattle.sqlite_wal.specs.Files.{image_at};
-ghost use Rattle.upd_cli.specs.Commands.{Carries, IsInitialized, RunsCommand};
+ghost use Rattle.upd_cli.specs.Commands.{Carries, IsInitialized, IsMigrated, RunsCommand, no_address_line};
+ghost use Rattle.upd_subcommands.specs.Command.{IsReported};
 ghost use Rattle.upd_subcommands.specs.Inputs.{IsOf, IsSpool, UsesFaults, ReadsFor, WritesRefusals, most_read_for};
 ghost use Rattle.upd_subcommands.specs.Streams.{TakesFront, stream};
 
 use crate::desk_work::{FileRows, TreeRows, on_library};
 use crate::examined::report_on;
-use crate::library_file::{backup_file, init_file, migrate_file};
+use crate::library_file::{backup_file, compact_file, init_file, migrate_file};
 use crate::replay_report::replay_on;
-use crate::run_queries::list_on;
-use sqlite::{FileFrom, Start, Unknown};
+use sqlite::{FileFrom, Files, Start, Unknown};
 use sqlite_disk::Disk;
 use std::convert::AsStr;
 use std::io::{Read, Write};
-use upd_keep::Listed;
 use upd_row_store::Meaning;
 use upd_subcommands::{
     DONE, carry_out_explaining, carry_out_trial, finish, finish_with, report_unread, write_out,
@@ -33,109 +32,126 @@ pub fn run_command<S: AsStr, R: Read, W: Write, E: Write>(
     output: &mut W,
     faults: &mut E,
 ) -> u8
-    ensures { RunsCommand ⟦<FileRows<Unknown> as Meaning>⟧ (λ rows. rows.inner.conn) (image_at ⟦<Unknown as Start>⟧)
-        ⟦<TreeRows<Unknown> as Meaning>⟧ (λ rows. rows.inner.store) (image_at ⟦<Unknown as Start>⟧)
+    ensures { (left : _) × RunsCommand ⟦<FileRows<Unknown> as Meaning>⟧ (λ rows. rows.inner.conn)
+        ⟦<TreeRows<Unknown> as Meaning>⟧ (λ rows. rows.inner.store) (image_at ⟦<Unknown as Start>⟧) left
         (stream R.remaining input.old input.new) (stream W.contents output.old output.new)
         (stream E.contents faults.old faults.new) (map S.text words.entry.now) result }
 {
-    run_command_from(rt, Unknown, Unknown, words, input, output, faults)
+    let (status, _) = run_command_from(rt, Unknown, words, input, output, faults);
+    status
 }
 
-/// `run_command` where the file and its log held this when they are opened: `start` through SQL, and `first` before that, below
-/// SQL, for a command that only reads. No code can read these: they are there for the contract, which says what a command
-/// does with a library that a file holds. `Unknown` stands for any contents.
-pub fn run_command_from<Fi: Start, St: Start, S: AsStr, R: Read, W: Write, E: Write>(
+/// `run_command` where the file and its log held this when they are opened. No code can read it: it is there for the contract,
+/// which says what a command does with a library that a file holds. `Unknown` stands for any contents. Beside the status the
+/// file and its log are returned, closed, after a command at a desk, `init` and `migrate`, unless they can't be opened: what
+/// a crash leaves of them is what the next command finds.
+pub fn run_command_from<St: Start, S: AsStr, R: Read, W: Write, E: Write>(
     rt: &HostRuntime,
-    first: Fi,
     start: St,
     words: &[S],
     input: &mut R,
     output: &mut W,
     faults: &mut E,
-) -> u8
-    ensures { RunsCommand ⟦<FileRows<St> as Meaning>⟧ (λ rows. rows.inner.conn) (image_at St.Start)
-        ⟦<TreeRows<Fi> as Meaning>⟧ (λ rows. rows.inner.store) (image_at Fi.Start)
+) -> (u8, Option<Files<FileFrom<St>>>)
+    ensures { RunsCommand ⟦<FileRows<St> as Meaning>⟧ (λ rows. rows.inner.conn)
+        ⟦<TreeRows<St> as Meaning>⟧ (λ rows. rows.inner.store) (image_at St.Start) result.1
         (stream R.remaining input.old input.new) (stream W.contents output.old output.new)
-        (stream E.contents faults.old faults.new) (map S.text words.entry.now) result }
+        (stream E.contents faults.old faults.new) (map S.text words.entry.now) result.0 }
 {
     match read_words(rt.alloc(), words) {
-        Ok(request) => carry_out(rt, first, start, &request, input, output, faults),
-        Err(fault) => finish(Err(fault), faults),
+        Ok(request) => carry_out(rt, start, &request, input, output, faults),
+        Err(fault) => (finish(Err(fault), faults), None),
     }
 }
 
 /// Carries out what the words of a command line ask for, and returns the exit status.
-fn carry_out<Fi: Start, St: Start, R: Read, W: Write, E: Write>(
+fn carry_out<St: Start, R: Read, W: Write, E: Write>(
     rt: &HostRuntime,
-    first: Fi,
     start: St,
     request: &Request<'_>,
     input: &mut R,
     output: &mut W,
     faults: &mut E,
-) -> u8
-    ensures done { Carries ⟦<FileRows<St> as Meaning>⟧ (λ rows. rows.inner.conn) (image_at St.Start)
-        ⟦<TreeRows<Fi> as Meaning>⟧ (λ rows. rows.inner.store) (image_at Fi.Start)
+) -> (u8, Option<Files<FileFrom<St>>>)
+    ensures done { Carries ⟦<FileRows<St> as Meaning>⟧ (λ rows. rows.inner.conn)
+        ⟦<TreeRows<St> as Meaning>⟧ (λ rows. rows.inner.store) (image_at St.Start) result.1
         (stream R.remaining input.old input.new) (stream W.contents output.old output.new)
-        (stream E.contents faults.old faults.new) request.now result }
+        (stream E.contents faults.old faults.new) request.now result.0 }
     ensures front { ¬ IsOf IsSpool request.now
         → TakesFront (most_read_for request.now) (R.remaining input.old) (R.remaining input.new) }
     ensures waits { ¬ ReadsFor request.now → input.new ≡ input.old }
-    ensures silent { (result ≡ 2) ⊎ ((result ≡ 1) × ¬ IsOf WritesRefusals request.now) → output.new ≡ output.old }
-    ensures clean { ¬ IsOf UsesFaults request.now → result ≡ 0 → faults.new ≡ faults.old }
+    ensures silent { (result.0 ≡ 2) ⊎ ((result.0 ≡ 1) × ¬ IsOf WritesRefusals request.now) → output.new ≡ output.old }
+    ensures clean { ¬ IsOf UsesFaults request.now → result.0 ≡ 0 → faults.new ≡ faults.old }
 {
     match request {
         Request::Trial(mode) => {
             let ended = carry_out_trial(rt.alloc(), mode, input, output);
-            finish(ended, faults)
+            (finish(ended, faults), None)
         }
         Request::Init(file) => carry_out_init(rt, file, start, faults),
         Request::Library { file, command } => {
-            let ended = on_library(rt, file, first, start, command, input, output, faults);
-            finish_with(ended, faults)
+            let (ended, left) = on_library(rt, file, start, command, input, output, faults);
+            (finish_with(ended, faults), left)
         }
-        Request::Runs(file) => {
-            let ended = list_on(rt, file, first, start, Listed::Runs, output);
-            finish_with(ended, faults)
+        Request::Backup { file, copy } => {
+            (finish(backup_file(rt, file, start, copy), faults), None)
         }
-        Request::Sites(file) => {
-            let ended = list_on(rt, file, first, start, Listed::Sites, output);
-            finish_with(ended, faults)
+        Request::Compact { file, copy } => {
+            (finish(compact_file(rt, file, start, copy), faults), None)
         }
-        Request::Backup { file, copy } => finish(backup_file(rt, file, start, copy), faults),
-        Request::Examine(file) => report_on(rt, file, start, output, faults),
-        Request::Replay(file) => replay_on(rt, file, start, output, faults),
-        Request::Migrate(file) => finish(migrate_file(rt, file, start), faults),
-        Request::Explain(fault) => carry_out_explaining(fault, output, faults),
-        Request::Shown(text) => finish(write_out(output, text.as_bytes()), faults),
-        Request::Unread(text) => report_unread(&[text.as_bytes()], faults),
-        Request::NoAddress(word) => report_unread(
-            &[
-                b"error: invalid value '",
-                word.as_bytes(),
-                b"' for '<ADDRESS>': no IP address and port\n\nFor more information, try '--help'.\n",
-            ],
-            faults,
-        ),
+        Request::Examine(file) => (report_on(rt, file, start, output, faults), None),
+        Request::Replay(file) => (replay_on(rt, file, start, output, faults), None),
+        Request::Migrate(file) => carry_out_migrate(rt, file, start, faults),
+        Request::Explain(fault) => (carry_out_explaining(fault, output, faults), None),
+        Request::Shown(text) => (finish(write_out(output, text.as_bytes()), faults), None),
+        Request::Unread(text) => (report_unread(&[text.as_bytes()], faults), None),
+        Request::NoAddress(word) => (report_no_address(word, faults), None),
     }
 }
 
-/// Makes an empty library in the file, and returns the exit status.
+/// Reports that a word is no address, and returns the exit status.
+fn report_no_address<E: Write>(word: &str, faults: &mut E) -> u8
+    ensures status { (result ≡ 2) ⊎ (result ≡ 3) }
+    ensures reported { IsReported 2 (no_address_line word.now) result (E.contents faults.old) (E.contents faults.new) }
+{
+    report_unread(
+        &[
+            b"error: invalid value '",
+            word.as_bytes(),
+            b"' for '<ADDRESS>': no IP address and port\n\nFor more information, try '--help'.\n",
+        ],
+        faults,
+    )
+}
+
+/// Makes an empty library in the file, and returns the exit status and the closed files.
 fn carry_out_init<St: Start, E: Write>(
     rt: &HostRuntime,
     file: &str,
     start: St,
     faults: &mut E,
-) -> u8
-    ensures made { IsInitialized ⟦<FileFrom<St> as Disk>⟧ (image_at St.Start) result
+) -> (u8, Option<Files<FileFrom<St>>>)
+    ensures made { IsInitialized ⟦<FileFrom<St> as Disk>⟧ (image_at St.Start) result.1 result.0
         (E.contents faults.old) (E.contents faults.new) }
-    ensures clean { result ≡ 0 → faults.new ≡ faults.old }
+    ensures clean { result.0 ≡ 0 → faults.new ≡ faults.old }
 {
     match init_file(rt, file, start) {
-        Ok(files) => {
-            drop(files);
-            DONE
-        }
-        Err(fault) => finish(Err(fault), faults),
+        Ok(files) => (DONE, Some(files)),
+        Err(fault) => (finish(Err(fault), faults), None),
     }
+}
+
+/// Migrates the file, and returns the exit status and the closed files.
+fn carry_out_migrate<St: Start, E: Write>(
+    rt: &HostRuntime,
+    file: &str,
+    start: St,
+    faults: &mut E,
+) -> (u8, Option<Files<FileFrom<St>>>)
+    ensures migrated { IsMigrated ⟦<FileFrom<St> as Disk>⟧ (image_at St.Start) result.1 result.0
+        (E.contents faults.old) (E.contents faults.new) }
+    ensures clean { result.0 ≡ 0 → faults.new ≡ faults.old }
+{
+    let (ended, left) = migrate_file(rt, file, start);
+    (finish(ended, faults), left)
 }

@@ -9,9 +9,10 @@ mod command;
 mod desk_work;
 mod examined;
 mod library_file;
+mod process;
 mod replay_report;
-mod run_queries;
 
 pub use command::{run_command, run_command_from};
+pub use process::run_process;
 pub use upd_subcommands::{report_words, trial};
 pub use upd_words::{serve_is_read, trial_is_read};

@@ -159,6 +159,7 @@ const ABOUT: &[(&str, &str)] = &[
     ("runs", "Lists the stored runs"),
     ("sites", "Lists the sites"),
     ("backup", "Makes a whole copy"),
+    ("compact", "Makes a library anew"),
     ("examine", "Says what is at a path"),
     ("replay", "Hands the stored runs"),
     ("migrate", "Migrates the file of an older"),

@@ -1,6 +1,6 @@
 //! How a deck is edited: its text, the run that corrects it, what the run would do, and its compile file.
 //! Rules 10.61 to 10.67.
-use crate::console::{accepts, answers, answers_of, ask, library, remove};
+use crate::console::{accepts, answers, answers_of, ask, ask_of, library, remove};
 use crate::file_sessions::{NO_LIBRARY, Step, Wanted, session};
 use std::test::Fail;
 use upd_testkit::check::same;
@@ -129,6 +129,8 @@ fn a_spool_leads_decks_to_their_texts(rt: HostRuntime) -> Result<(), Fail> {
         "",
         "BadName 0:0 the name of the sets has at most 8 bytes, since a number follows it\n",
     );
+    const SETTLED: Wanted<'_> = (1, "", "NumberUsed 0:0 number 1 is used or settled\n");
+    const USED: Wanted<'_> = (1, "", "NumberUsed 0:0 number 2 is used or settled\n");
     const PARTS: &str = "correct-parts";
     const STEPS: &[Step<'_>] = &[
         FIRST,
@@ -143,10 +145,18 @@ fn a_spool_leads_decks_to_their_texts(rt: HostRuntime) -> Result<(), Fail> {
             EDITED,
             LONG_NAME,
         ),
+        Step::Writes(
+            "settle",
+            &["LYON", "1"],
+            "{\"settled\":1,\"site\":\"LYON\"}\n",
+        ),
+        Step::Answers(PARTS, &["T", "LYON", "1", "quick"], EDITED, SETTLED),
+        Step::Answers(PARTS, &["T", "LYON", "2", "quick"], EDITED, USED),
+        Step::Answers(PARTS, &["T", "LYON", "2", "slow"], EDITED, BAD_WORD),
         Step::Answers(PARTS, &["T", "LYON", "3", "quick"], EDITED, (0, SPOOL, "")),
         Step::Writes("idents", &[], IDENTS),
         Step::Answers("spool", &[], SPOOL, (0, SPOOLED, "")),
-        Step::Answers(PARTS, &["U", "LYON", "4", "quick"], EDITED, (0, "", "")),
+        Step::Answers(PARTS, &["U", "LYON", "3", "quick"], EDITED, (0, "", "")),
     ];
     session(&rt, "parts", STEPS)
 }
@@ -203,6 +213,23 @@ fn no_frame_is_numbered_past_the_greatest(rt: HostRuntime) -> Result<(), Fail> {
         text.as_str(),
         (1, "", "upd: BadNumber (24) at 0\n"),
     )?;
+    remove(&rt, &file)
+}
+
+/// A text in three parts gets no number that is used, and then three that are free.
+#[test]
+fn the_numbers_of_all_parts_are_free(rt: HostRuntime) -> Result<(), Fail> {
+    const USED: Wanted<'_> = (1, "", "NumberUsed 0:0 number 7 is used or settled\n");
+    let (alloc, file) = (rt.alloc(), library(&rt, "used")?);
+    let text = format!(in alloc; "*DECK B\n{}", "NEW\n".repeat(alloc, 4_100)?.as_str())?;
+    accepts(&rt, &file, "7", "quick", "*/ used\n")?;
+    let words = ["T", "LYON", "5", "quick"];
+    answers_of(&rt, &file, "correct-parts", &words, &text, USED)?;
+    let words = ["T", "LYON", "8", "quick"];
+    let found = ask_of(&rt, &file, "correct-parts", &words, &text)?;
+    same("the status", found.status, 0)?;
+    let is_whole = std::str::from_utf8(&found.output)?.contains("\nRUN LYON 10 quick ");
+    same("the last frame is there", is_whole, true)?;
     remove(&rt, &file)
 }
 
@@ -291,6 +318,36 @@ fn a_library_is_looked_at(rt: HostRuntime) -> Result<(), Fail> {
         Step::Answers("show", &["Q"], "", NO_IDENT),
     ];
     session(&rt, "look", STEPS)
+}
+
+/// What Y did, and the run that introduced it.
+const INTRODUCED: Step<'static> = Step::Writes(
+    "show",
+    &["Y"],
+    "IDENT Y set\nDECK YANK$$$\nA Y.1 *YANK X\n set X\nRUN LYON 3 normal # take it back\n",
+);
+
+/// Y comes again: its run is known as long as the runs of both are stored.
+#[test]
+fn the_message_of_a_run_is_shown_while_the_run_is_stored(rt: HostRuntime) -> Result<(), Fail> {
+    const STEPS: &[Step<'_>] = &[
+        Step::Accepts("1", "quick", "*/begin\n*DECK A\nONE\n"),
+        Step::Accepts("2", "quick", "*IDENT X\n*DELETE A.2\n*/ second\n"),
+        Step::Writes("show", &["X"], "IDENT X set\nDECK A\noff A.2 ONE\n"),
+        Step::Accepts("3", "normal", "*/ take it back\n*IDENT Y\n*YANK X\n"),
+        INTRODUCED,
+        Step::Accepts("4", "quick", "*/ purged\n*PURGE Y\n"),
+        Step::Answers("show", &["Y"], "", NO_IDENT),
+        Step::Accepts("5", "quick", "*/ again\n*IDENT Y\n"),
+        Step::Writes("show", &["Y"], "IDENT Y set\nRUN LYON 5 quick # again\n"),
+        Step::Writes(
+            "settle",
+            &["LYON", "3"],
+            "{\"settled\":3,\"site\":\"LYON\"}\n",
+        ),
+        Step::Writes("show", &["Y"], "IDENT Y set\n"),
+    ];
+    session(&rt, "message", STEPS)
 }
 
 /// The page of a library begins and ends as HTML does, and has this text.

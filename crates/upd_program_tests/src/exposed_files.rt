@@ -73,7 +73,7 @@ const BESIDE_FOREIGN_LOG: &[Step<'_>] = &[
             3,
             "",
             "upd: the log beside it, FILE-wal, is another user's, who may be at work: \
-let that user run `upd spool FILE </dev/null`, or move it away\n",
+once that user has run `upd spool FILE </dev/null`, remove it\n",
         ),
     ),
 ];

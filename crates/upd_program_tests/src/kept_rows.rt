@@ -170,11 +170,20 @@ fn is_copied(rt: &HostRuntime, copy: &str) -> Result<(), Fail> {
     take_all(rt, copy, &[ROWS])
 }
 
+/// So has a library that is made anew.
+fn is_made_anew(rt: &HostRuntime, copy: &str) -> Result<(), Fail> {
+    let words = [copy];
+    keeps_rows(rt, "copied", &[YANKED, Step::Writes("compact", &words, "")])?;
+    take_all(rt, copy, &[ROWS])
+}
+
 #[test]
-fn a_backup_has_all_rows_and_changes_none(rt: HostRuntime) -> Result<(), Fail> {
-    let copy = fresh(&rt, "all-rows")?;
+fn copies_have_all_rows_and_change_none(rt: HostRuntime) -> Result<(), Fail> {
+    let (copy, anew) = (fresh(&rt, "all-rows")?, fresh(&rt, "anew-rows")?);
     is_copied(&rt, &copy)?;
-    remove(&rt, &copy)
+    is_made_anew(&rt, &anew)?;
+    remove(&rt, &copy)?;
+    remove(&rt, &anew)
 }
 
 /// Run 3 is sent over HTTP. Afterwards its reply is stored beside the others, and is repeated.

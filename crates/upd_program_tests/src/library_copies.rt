@@ -1,9 +1,12 @@
 //! What the copy of a library is, what is in its way, and who may read it. Rules 10.81 and 10.82.
 use crate::console::{accepts, answers, fresh, library, remove};
 use crate::file_sessions::{Step, take_all};
+use sqlite::Connection;
+use sqlite_disk::Unknown;
 use std::fs;
 use std::os::unix::fs::{PermissionsExt, symlink};
 use std::test::Fail;
+use upd_store::SqlStore;
 use upd_testkit::check::{holds, same};
 
 /// A copy is made.
@@ -48,14 +51,46 @@ fn a_large_library_is_copied_whole(rt: HostRuntime) -> Result<(), Fail> {
     remove(&rt, &file)
 }
 
+/// A library whose pages have no sums, as an earlier program made it.
+fn without_sums(rt: &HostRuntime, name: &str) -> Result<String, Fail> {
+    let file = fresh(rt, name)?;
+    match Connection::open_from(rt, file.as_str(), false, Unknown) {
+        Ok(conn) => match SqlStore::init(conn) {
+            Ok(store) => store.into_connection().close()?,
+            Err((fault, _)) => return Err(fault.into()),
+        },
+        Err((error, _)) => return Err(error.into()),
+    }
+    Ok(file)
+}
+
+/// Two files have so many bytes for a sum in each page, and the second is smaller.
+fn gets_sums(rt: &HostRuntime, file: &str, copy: &str) -> Result<(), Fail> {
+    let (old, new) = (fs::read(rt, file)?, fs::read(rt, copy)?);
+    let sums = (old.get(20).copied(), new.get(20).copied());
+    same("the bytes of a sum", sums, (Some(0), Some(8)))?;
+    holds("a smaller file", new.len() < old.len())
+}
+
+#[test]
+fn a_library_made_anew_is_smaller_and_has_sums(rt: HostRuntime) -> Result<(), Fail> {
+    const SETTLED: &str = "{\"settled\":1,\"site\":\"LYON\"}\n";
+    let (file, copy) = (without_sums(&rt, "loose")?, fresh(&rt, "anew")?);
+    add_deck(&rt, &file, "1", "A")?;
+    add_deck(&rt, &file, "2", "B")?;
+    answers(&rt, &["settle", &file, "LYON", "1"], "", (0, SETTLED, ""))?;
+    answers(&rt, &["compact", &file, &copy], "", (0, "", ""))?;
+    gets_sums(&rt, &file, &copy)?;
+    is_refused(&rt, &file, &copy)?;
+    remove(&rt, &copy)?;
+    remove(&rt, &file)
+}
+
 /// No copy is made.
 fn is_refused(rt: &HostRuntime, file: &str, copy: &str) -> Result<(), Fail> {
-    answers(
-        rt,
-        &["backup", file, copy],
-        "",
-        (3, "", "upd: Write (33) at 0\n"),
-    )
+    let wanted = (3, "", "upd: Write (33) at 0\n");
+    answers(rt, &["backup", file, copy], "", wanted)?;
+    answers(rt, &["compact", file, copy], "", wanted)
 }
 
 fn with_ending(rt: &HostRuntime, copy: &str, ending: &str) -> Result<String, Fail> {

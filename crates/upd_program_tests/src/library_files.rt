@@ -157,3 +157,35 @@ fn a_library_is_made_in_an_empty_file(rt: HostRuntime) -> Result<(), Fail> {
     take_all(&rt, &file, STEPS)?;
     remove(&rt, &file)
 }
+
+/// The place of a text in a file's bytes.
+fn place_of(bytes: &[u8], text: &[u8]) -> Option<usize> {
+    (0..bytes.len()).find(|&at| bytes[at..].starts_with(text))
+}
+
+/// The first byte of a text in a file gets another bit.
+fn change_byte(rt: &HostRuntime, file: &str, text: &[u8]) -> Result<(), Fail> {
+    let mut bytes = fs::read(rt, file)?;
+    let Some(at) = place_of(&bytes, text) else {
+        return Err("no such text in the file".into());
+    };
+    if let Some(byte) = bytes.get_mut(at) {
+        *byte ^= 1;
+    }
+    fs::write(rt, file, &bytes)?;
+    Ok(())
+}
+
+/// The pages of a new library have sums, so that a card's text with one changed bit is answered by no command.
+#[test]
+fn a_changed_byte_of_a_card_is_found_by_all_commands(rt: HostRuntime) -> Result<(), Fail> {
+    let file = library(&rt, "summed")?;
+    take_all(
+        &rt,
+        &file,
+        &[Step::Accepts("1", "quick", "*DECK A\nUNCHANGED\n")],
+    )?;
+    change_byte(&rt, &file, b"UNCHANGED")?;
+    take_all(&rt, &file, &[Step::AllAnswer(NO_LIBRARY)])?;
+    remove(&rt, &file)
+}

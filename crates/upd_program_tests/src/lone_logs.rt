@@ -2,9 +2,12 @@
 use crate::console::{fresh, library, remove};
 use crate::file_sessions::{NO_LIBRARY, SILENT, Step, take_all};
 use std::fs;
+use std::fs::Permissions;
+use std::os::unix::fs::PermissionsExt;
+use std::path::Path;
 use std::test::Fail;
 use upd_keep::Situation;
-use upd_testkit::check::holds;
+use upd_testkit::check::{holds, same};
 
 /// What is tried at a path with a log and no library.
 const REFUSED: &[Step<'_>] = &[
@@ -92,4 +95,34 @@ fn no_library_is_made_over_a_letter(rt: HostRuntime) -> Result<(), Fail> {
     let kept = fs::read(&rt, file.as_str())?;
     holds("the letter", kept.as_slice() == b"x".as_slice())?;
     remove(&rt, &file)
+}
+
+/// A log that was left beside a new file is nobody else's to read.
+#[test]
+fn a_left_log_is_closed_to_others(rt: HostRuntime) -> Result<(), Fail> {
+    const MADE: &[Step<'_>] = &[Step::Answers("init", &[], "", SILENT)];
+    let file = fresh(&rt, "left")?;
+    let log = format!(in rt.alloc(); "{}-wal", file.as_str())?;
+    fs::write(&rt, log.as_str(), b"")?;
+    fs::set_permissions(&rt, log.as_str(), Permissions::from_mode(0o644))?;
+    take_all(&rt, &file, MADE)?;
+    let mode = fs::metadata(&rt, log.as_str())?.permissions().mode();
+    same("the rights", mode & 0o777, 0o600)?;
+    remove(&rt, &file)
+}
+
+/// Where there is no room for the name of a journal, no file is made.
+#[test]
+fn no_library_is_made_under_a_long_name(rt: HostRuntime) -> Result<(), Fail> {
+    const REFUSED: &[Step<'_>] = &[Step::Answers("init", &[], "", NO_LIBRARY)];
+    const MADE: &[Step<'_>] = &[Step::Answers("init", &[], "", SILENT)];
+    let file = fresh(&rt, "long")?;
+    let short = Path::new(file.as_str()).file_name().map_or(0, str::len);
+    let more = "n".repeat(rt.alloc(), 247usize.saturating_sub(short))?;
+    let name = format!(in rt.alloc(); "{}{}", file.as_str(), more.as_str())?;
+    let long = format!(in rt.alloc(); "{}n", name.as_str())?;
+    take_all(&rt, &long, REFUSED)?;
+    holds("no file", !fs::exists(&rt, long.as_str())?)?;
+    take_all(&rt, &name, MADE)?;
+    remove(&rt, &name)
 }

@@ -7,9 +7,9 @@ use Rattle.upd_subcommands.specs.Trial.{trial_named}
 use Rattle.upd_words.specs.declared.words.Request.{Request}
 use Rattle.upd_subcommands.proofs.CommandLemmas.{answered, none_of}
 use Rattle.upd_subcommands.specs.Command.{IsReported, ending}
-use Rattle.upd_cli.specs.Commands.{IsShown, no_address_line}
+use Rattle.upd_cli.specs.Commands.{IsShown}
 use Rattle.upd_cli.proofs.DoneLemmas.{done_as, shown_status}
-use Rattle.upd_cli.proofs.LeavingLemmas.{clean_end, ended_well, list_ends, not_refused, silent_end}
+use Rattle.upd_cli.proofs.LeavingLemmas.{clean_end, silent_end}
 use Rattle.upd_cli.proofs.command.carry_out.Goals as goal
 
 pub returns-in-Trial-clause-done : goal.returns-in-Trial-clause-done
@@ -33,7 +33,7 @@ returns-in-Init-clause-done g c =
 pub returns-in-Library-clause-done : goal.returns-in-Library-clause-done
 returns-in-Library-clause-done g c =
     done_as c.args.request.now _ _ c.in-Library.is
-    (c.on_library-ended.result, c.on_library-ended.new.faults, c.on_library-ended.ensures.leaves, c.finish_with.ensures.reported)
+    (c.on_library-ended.result.0, c.on_library-ended.new.faults, c.on_library-ended.ensures.leaves, c.finish_with.ensures.reported)
 
 pub returns-in-Library-clause-front : goal.returns-in-Library-clause-front
 returns-in-Library-clause-front g c = λ other.
@@ -46,7 +46,7 @@ returns-in-Library-clause-waits g c = λ no. c.on_library-ended.ensures.waits (�
 
 pub returns-in-Library-clause-silent : goal.returns-in-Library-clause-silent
 returns-in-Library-clause-silent g c = λ which.
-    silent_end _ _ c.on_library-ended.result _ _ _ c.finish_with.ensures.reported c.on_library-ended.ensures.refused c.on_library-ended.ensures.failed
+    silent_end _ _ c.on_library-ended.result.0 _ _ _ c.finish_with.ensures.reported c.on_library-ended.ensures.refused c.on_library-ended.ensures.failed
     (elim which [
       | inl two ↦ inl two
       | inr one ↦ inr (one.0, λ is. one.1 (subst (IsOf WritesRefusals) (sym c.in-Library.is) is))
@@ -55,36 +55,21 @@ returns-in-Library-clause-silent g c = λ which.
 pub returns-in-Library-clause-clean : goal.returns-in-Library-clause-clean
 returns-in-Library-clause-clean g c = λ other zero.
     c.finish_with.ensures.clean zero
-    ∙ clean_end _ _ c.on_library-ended.result _ _ _ c.finish_with.ensures.reported c.on_library-ended.ensures.clean c.on_library-ended.ensures.quiet
+    ∙ clean_end _ _ c.on_library-ended.result.0 _ _ _ c.finish_with.ensures.reported c.on_library-ended.ensures.clean c.on_library-ended.ensures.quiet
     (λ is. other (subst (IsOf UsesFaults) (sym c.in-Library.is) is)) zero
-
-pub returns-in-Runs-clause-done : goal.returns-in-Runs-clause-done
-returns-in-Runs-clause-done g c =
-    done_as c.args.request.now _ _ c.in-Runs.is
-    (c.list_on-ended.result, c.list_on-ended.ensures, c.finish_with-in-Runs.ensures.reported)
-
-pub returns-in-Runs-clause-silent : goal.returns-in-Runs-clause-silent
-returns-in-Runs-clause-silent g c =
-    let ends = list_ends _ _ _ _ _ c.list_on-ended.result _ _ c.list_on-ended.ensures in
-    not_refused _ _ c.finish_with-in-Runs.result
-    (ended_well c.list_on-ended.result _ _ _ c.finish_with-in-Runs.ensures.reported ends.0 ends.1)
-
-pub returns-in-Sites-clause-done : goal.returns-in-Sites-clause-done
-returns-in-Sites-clause-done g c =
-    done_as c.args.request.now _ _ c.in-Sites.is
-    (c.list_on-ended-in-Sites.result, c.list_on-ended-in-Sites.ensures, c.finish_with-in-Sites.ensures.reported)
-
-pub returns-in-Sites-clause-silent : goal.returns-in-Sites-clause-silent
-returns-in-Sites-clause-silent g c =
-    let ends = list_ends _ _ _ _ _ c.list_on-ended-in-Sites.result _ _ c.list_on-ended-in-Sites.ensures in
-    not_refused _ _ c.finish_with-in-Sites.result
-    (ended_well c.list_on-ended-in-Sites.result _ _ _ c.finish_with-in-Sites.ensures.reported ends.0 ends.1)
 
 pub returns-in-Backup-clause-done : goal.returns-in-Backup-clause-done
 returns-in-Backup-clause-done g c =
     done_as c.args.request.now _ _ c.in-Backup.is (
       Appends-nil (g.W.Write.contents c.args.output.now),
       (c.backup_file.result, c.backup_file.ensures.copies, (c.backup_file.ensures.failed, c.finish-in-Backup.ensures.reported)),
+    )
+
+pub returns-in-Compact-clause-done : goal.returns-in-Compact-clause-done
+returns-in-Compact-clause-done g c =
+    done_as c.args.request.now _ _ c.in-Compact.is (
+      Appends-nil (g.W.Write.contents c.args.output.now),
+      (c.compact_file.result, c.compact_file.ensures.compacts, (c.compact_file.ensures.failed, c.finish-in-Compact.ensures.reported)),
     )
 
 pub returns-in-Examine-clause-done : goal.returns-in-Examine-clause-done
@@ -95,10 +80,7 @@ returns-in-Replay-clause-done g c = done_as c.args.request.now _ _ c.in-Replay.i
 
 pub returns-in-Migrate-clause-done : goal.returns-in-Migrate-clause-done
 returns-in-Migrate-clause-done g c =
-    done_as c.args.request.now _ _ c.in-Migrate.is (
-      Appends-nil (g.W.Write.contents c.args.output.now),
-      (c.migrate_file.result, c.migrate_file.ensures.migrates, (c.migrate_file.ensures.failed, c.finish-in-Migrate.ensures.reported)),
-    )
+    done_as c.args.request.now _ _ c.in-Migrate.is (Appends-nil (g.W.Write.contents c.args.output.now), c.carry_out_migrate.ensures.migrated)
 
 pub returns-in-Explain-clause-done : goal.returns-in-Explain-clause-done
 returns-in-Explain-clause-done g c = done_as c.args.request.now _ _ c.in-Explain.is c.carry_out_explaining.ensures.reported
@@ -124,11 +106,5 @@ returns-in-Unread-clause-done g c =
 
 pub returns-in-NoAddress-clause-done : goal.returns-in-NoAddress-clause-done
 returns-in-NoAddress-clause-done g c =
-    let IsRight : List ℕ → Type 0 =
-    λ word. IsReported 2 (no_address_line word) c.report_unread-in-NoAddress.result (g.E.Write.contents c.args.faults.now)
-    (g.E.Write.contents c.report_unread-in-NoAddress.new.faults) in
-    done_as c.args.request.now _ _ c.in-NoAddress.is (
-      Appends-nil (g.W.Write.contents c.args.output.now),
-      c.report_unread-in-NoAddress.ensures.status,
-      subst IsRight c.as_bytes-in-NoAddress.ensures.value c.report_unread-in-NoAddress.ensures.reported,
-    )
+    done_as c.args.request.now _ _ c.in-NoAddress.is
+    (Appends-nil (g.W.Write.contents c.args.output.now), c.report_no_address.ensures.status, c.report_no_address.ensures.reported)

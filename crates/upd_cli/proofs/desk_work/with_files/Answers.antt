@@ -1,5 +1,5 @@
 use Rattle.std.proofs.Common.{sym, subst, ap, ◌∙◌}
-use Rattle.upd_cli.specs.Opened.{Closes}
+use Rattle.upd_store.specs.OpenedAgain.{Closes}
 use Rattle.upd_cli.proofs.desk_work.with_files.Goals as goal
 
 pub returns : goal.returns

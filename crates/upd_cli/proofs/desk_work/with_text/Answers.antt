@@ -12,9 +12,3 @@ returns-in-Err g c =
       leaves = inr (inr (inr (inl (OfMemory fault (ap (λ (f : Fault). f.kind) is) (ap (λ (f : Fault). f.at) is)), refl, refl, refl)));
       frames = untouched_frames _ _ _ c.args.command.now fault (unread_fails fault (inl is)) refl refl refl;
     }
-
-pub returns-in_default : goal.returns-in_default
-returns-in_default g c = record {
-  leaves = elim c.at_desk.ensures.leaves [ inl works ↦ inl works | inr untouched ↦ inr (inr (inr untouched)) ];
-  frames = c.at_desk.ensures.frames;
-}

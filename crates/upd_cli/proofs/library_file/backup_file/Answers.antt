@@ -1,4 +1,4 @@
-use Rattle.std.proofs.Common.{inl, inr}
+use Rattle.std.proofs.Common.{inl}
 use Rattle.std.proofs.lemmas.Result.{IfErr-weaker}
 use Rattle.upd_cli.proofs.LeavingLemmas.{backup_fails, unopened_fails}
 use Rattle.upd_cli.proofs.library_file.backup_file.Goals as goal
