@@ -140,6 +140,23 @@ fn a_deck_that_was_yanked_later_is_in_the_way(rt: HostRuntime) -> Result<(), Fai
     )
 }
 
+/// A yank of a yank brings back a yank that takes the deck.
+#[test]
+fn a_yank_that_came_back_is_in_the_way(rt: HostRuntime) -> Result<(), Fail> {
+    let runs = [
+        DECK,
+        "*IDENT X\n*YANKDECK A\n",
+        "*IDENT Y\n*YANK X\n",
+        "*IDENT W\n*YANK Y\n",
+    ];
+    gives_since(
+        &after(rt.alloc(), &runs)?,
+        "Y",
+        "*DECK A\nONE\nZWEI\nTHREE\n",
+        "Conflict 0:0 A.1 was taken out of use by W, which came after this text\n",
+    )
+}
+
 /// The limits are those of the library that the run meets: it has room for one ident more.
 #[test]
 fn a_run_fits_where_one_ident_is_left(rt: HostRuntime) -> Result<(), Fail> {
