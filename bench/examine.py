@@ -23,7 +23,7 @@ from pathlib import Path
 
 sys.dont_write_bytecode = True
 from changes import CHANGES, TABLES  # noqa: E402
-from needs import ROOT, add_executable, there  # noqa: E402
+from needs import ROOT, add_executable, there, without_sums  # noqa: E402
 from paths import try_paths  # noqa: E402
 
 EXAMPLES = ROOT / "examples/runs"
@@ -166,6 +166,7 @@ def try_sound(upd, files):
 def changed(dice, file, copy, change):
     """Makes a change in a copy of a library, at a random row. Returns whether there is a row for it."""
     shutil.copyfile(file, copy)
+    without_sums(copy)
     db = sqlite3.connect(copy, isolation_level=None)
     rows = db.execute(f"SELECT t.rowid {change.picks}").fetchall()
     if rows:

@@ -20,7 +20,7 @@ import tempfile
 from pathlib import Path
 
 sys.dont_write_bytecode = True
-from needs import add_executable, tests_of, there, tools  # noqa: E402
+from needs import add_executable, tests_of, there, tools, without_sums  # noqa: E402
 
 # A disk in memory, since each command waits for the disk.
 QUICK = "/dev/shm" if Path("/dev/shm").is_dir() else None
@@ -178,6 +178,7 @@ class Command:
 
 def make_older(file, version):
     """Leads a library back to an older schema."""
+    without_sums(file)
     base = sqlite3.connect(file)
     for table in ["settled", "states", "counts"][:1 if version == 2 else 3]:
         base.execute(f"DROP TABLE {table}")

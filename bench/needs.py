@@ -1,6 +1,7 @@
 """What the scripts of this folder need. Where something isn't there, a script ends and says what is missing."""
 
 import shutil
+import sqlite3
 import subprocess
 import sys
 import time
@@ -25,6 +26,18 @@ def there(file, maker="`rt run` in crates/upd"):
 def tests_of(crate):
     """The whole path of the executable of a crate's tests."""
     return there(ROOT / f"crates/{crate}/out/{crate}_tests", f"`rt test` in crates/{crate}")
+
+
+def without_sums(file):
+    """Makes a library anew of its rows, without sums on its pages, which a plain SQLite spoils when it writes."""
+    old = sqlite3.connect(file)
+    rows = "\n".join(old.iterdump())
+    old.close()
+    for end in ("", "-wal", "-shm"):
+        Path(f"{file}{end}").unlink(missing_ok=True)
+    new = sqlite3.connect(file, isolation_level=None)
+    new.executescript(rows)
+    new.close()
 
 
 def tools(*names):

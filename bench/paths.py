@@ -8,6 +8,8 @@ import subprocess
 import time
 from pathlib import Path
 
+from needs import without_sums
+
 NOBODY = 65534
 LOG = "log: keep FILE-wal with the file, it may have commits that the file lacks\n"
 
@@ -200,6 +202,7 @@ def try_schemas(paths):
 
 def change(file, texts):
     """Changes a database by hand."""
+    without_sums(file)
     db = sqlite3.connect(file, isolation_level=None)
     for text in texts:
         db.execute(text)
