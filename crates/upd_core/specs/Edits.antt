@@ -85,6 +85,10 @@ purged_in d z l = with_cards d (without_idents (λ x. x == z)) l
 abbrev pub is_among : List Serial → Serial → Bool
 is_among ages z = list_any (λ a. a == z) ages
 
+-- a purge of some idents in deck d; they stay held
+abbrev pub purged_among : Serial → List Serial → LibraryView → LibraryView
+purged_among d ages l = with_cards d (without_idents (is_among ages)) l
+
 -- back to before the ident with serial x: a purge of it and of all younger ones
 abbrev pub purged_back : Serial → LibraryView → LibraryView
 purged_back x l = purged (nat_le x) l

@@ -1,9 +1,9 @@
 //! The decks of a library, with an index that shortens look-ups of cards.
 
-ghost use Rattle.std.specs.Prelude.{◌≡◌, ◌==◌, ◌≤◌, [], ◌∷◌, ◌++◌, true, false, find, is_some, IfOk, OnOk, OnErr};
+ghost use Rattle.std.specs.Prelude.{◌≡◌, ◌≤◌, [], ◌∷◌, ◌++◌, true, false, find, is_some, IfOk, OnOk, OnErr};
 ghost use Rattle.std.specs.Option.{option_map_or};
 ghost use Rattle.upd_core.specs.EditParts.{entered_count, entered_in, inserted_in};
-ghost use Rattle.upd_core.specs.Edits.{decks_without, without_idents};
+ghost use Rattle.upd_core.specs.Edits.{deck_without, decks_without};
 ghost use Rattle.upd_core.specs.First.{at_first, index_from};
 ghost use Rattle.upd_core.specs.Gone.{is_gone};
 ghost use Rattle.upd_core.specs.Homes.{AreHome, IsHome, StayNoted, is_home, may_stray};
@@ -127,12 +127,11 @@ impl Decks {
         purge_decks(&mut self.all, gone);
     }
 
-    /// Purges an ident in the deck with a serial.
-    pub(crate) fn purge_in(&mut self, age: Serial, ident: Serial)
-        ensures { self.new
-            ≡ at_first (is_deck age) (λ d. record d { cards = without_idents (λ x. x == ident) d.cards }) self.old }
+    /// Removes the cards and entries of these idents from the deck with a serial.
+    pub(crate) fn purge_in(&mut self, age: Serial, gone: &Gone)
+        ensures { self.new ≡ at_first (is_deck age) (deck_without (is_gone gone.now)) self.old }
     {
-        purge_deck(&mut self.all, age, ident);
+        purge_deck(&mut self.all, age, gone);
     }
 }
 

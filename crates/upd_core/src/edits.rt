@@ -1,14 +1,14 @@
 //! The edits of a library. Its look-ups are in `library`.
 
-ghost use Rattle.std.specs.Prelude.{◌≡◌, ◌==◌, ◌-◌, ◌+◌, ◌<◌, ◌≤◌, length, map, take, insert};
+ghost use Rattle.std.specs.Prelude.{◌≡◌, ◌-◌, ◌+◌, ◌<◌, ◌≤◌, length, map, take, insert};
 ghost use Rattle.std.specs.Prelude.{find, is_some, IfOk, IfSome, OnOk, OnErr};
 ghost use Rattle.std.specs.Option.{option_map_or};
 ghost use Rattle.upd_core.specs.EditParts.{entered_count, entered_in, inserted_in, without_last};
 ghost use Rattle.upd_core.specs.Edits.{introduced, with_deck, with_card, with_yank, entered, entered_range};
-ghost use Rattle.upd_core.specs.Edits.{with_entries, without_idents, purged, purged_in, purged_back, is_among};
+ghost use Rattle.upd_core.specs.Edits.{with_entries, deck_without, without_idents, purged, purged_among, purged_back, is_among};
 ghost use Rattle.upd_core.specs.First.{index_from, at_first};
 ghost use Rattle.upd_core.specs.Gone.{is_gone};
-ghost use Rattle.upd_core.specs.Library.{is_deck};
+ghost use Rattle.upd_core.specs.Library.{is_deck, with_cards};
 
 use crate::card::{Card, Entry};
 use crate::counts::Counts;
@@ -159,14 +159,24 @@ impl Library {
         self.counts = Counts::of(&self.idents, self.decks.as_slice(), &self.yanks, self.rest);
     }
 
-    /// Purges an ident in one deck, 0 for `YANK$$$`; it stays held. It does not allocate.
-    pub fn purge_in(&mut self, deck: Serial, ident: Serial)
-        ensures { self.new ≡ purged_in deck ident self.old }
+    /// Purges idents in one deck, 0 for `YANK$$$`; they stay held. It allocates one flag for each serial up to the
+    /// greatest.
+    pub fn purge_in(&mut self, deck: Serial, idents: &[Serial]) -> Result<(), AllocError>
+        ensures ok { OnOk result (self.new ≡ purged_among deck idents.now self.old) }
+        ensures err { OnErr result (self.new ≡ self.old) }
+    {
+        let gone = Gone::among(*self.idents.allocator(), idents)?;
+        self.purge_gone_in(deck, &gone);
+        Ok(())
+    }
+
+    fn purge_gone_in(&mut self, deck: Serial, gone: &Gone)
+        ensures { self.new ≡ with_cards deck (without_idents (is_gone gone.now)) self.old }
     {
         if deck == 0 {
-            purge_cards(&mut self.yanks, &Gone::Only(ident));
+            purge_cards(&mut self.yanks, gone);
         } else {
-            self.decks.purge_in(deck, ident);
+            self.decks.purge_in(deck, gone);
         }
         self.counts = Counts::of(&self.idents, self.decks.as_slice(), &self.yanks, self.rest);
     }
@@ -312,13 +322,12 @@ pub(crate) fn enter_in(
     }
 }
 
-/// Purges an ident in the deck with a serial.
-pub(crate) fn purge_deck(decks: &mut Vec<Deck>, age: Serial, ident: Serial)
-    ensures { decks.new.items
-        ≡ at_first (is_deck age) (λ d. record d { cards = without_idents (λ x. x == ident) d.cards }) decks.old.items }
+/// [`purge_cards`] for the deck with a serial.
+pub(crate) fn purge_deck(decks: &mut Vec<Deck>, age: Serial, gone: &Gone)
+    ensures { decks.new.items ≡ at_first (is_deck age) (deck_without (is_gone gone.now)) decks.old.items }
 {
     if let Some(i) = deck_index(decks, age) {
         let deck = &mut decks[i];
-        purge_cards(&mut deck.cards, &Gone::Only(ident));
+        purge_cards(&mut deck.cards, gone);
     }
 }

@@ -13,7 +13,6 @@ use std::alloc::{AllocError, Global};
 /// The set of idents that a purge removes.
 #[derive(Drop)]
 pub enum Gone {
-    Only(Serial),
     /// An ident and all younger ones.
     From(Serial),
     /// The serials whose flag is set.
@@ -34,7 +33,6 @@ impl Gone {
         ensures { result ≡ is_gone self.now age }
     {
         match self {
-            Gone::Only(gone) => age == *gone,
             Gone::From(oldest) => *oldest <= age,
             Gone::Listed(flags) => is_listed(flags, age),
         }
