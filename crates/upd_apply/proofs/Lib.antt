@@ -4,5 +4,6 @@ pub mod EditLemmas
 pub mod DirectoryLemmas
 pub mod Filtered
 pub mod OnceLemmas
+pub mod PairLemmas
 pub mod StepLemmas
 pub mod TargetLemmas

@@ -1,5 +1,6 @@
 -- The idents and decks that the fields of a purge name.
-use Rattle.std.specs.Prelude.{ℕ, ◌==◌, List, [], ◌∷◌, Result, Ok}
+use Rattle.std.specs.Prelude.{ℕ, ◌==◌, List, [], ◌∷◌, map, Result, Ok}
+use Rattle.std.specs.List.{filter}
 use Rattle.upd_text.specs.declared.fault.FaultKind.{FaultKind}
 use Rattle.upd_text.specs.declared.fault.FaultKind.TheVariants as fault
 use Rattle.upd_text.specs.Outcome.{◌>>=◌, each, refuse_if}
@@ -44,3 +45,7 @@ pair_ages l pair = do
 -- the idents and decks that `*SELPURGE` names
 abbrev pub pairs_purged : List IdentIn → LibraryView → Result (List AgesIn) FaultKind
 pairs_purged pairs l = each (pair_ages l) pairs
+
+-- the idents that pairs have with deck d
+abbrev pub idents_with : ℕ → List AgesIn → List ℕ
+idents_with d pairs = map (λ a. a.ident) (filter (λ a. a.deck == d) pairs)

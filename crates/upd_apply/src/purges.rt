@@ -1,5 +1,5 @@
 //! Purges: `*PURGE`, `*SELPURGE`, `*PURDECK`, and the idents that they name.
-ghost use Rattle.std.specs.Prelude.{◌≡◌, ◌&&◌, [], ◌∷◌, ◌++◌, map, Ok, Err, MatchResult, OnOk};
+ghost use Rattle.std.specs.Prelude.{◌≡◌, ◌&&◌, [], ◌∷◌, ◌++◌, map, Ok, Err, MatchResult, IfOk, OnOk};
 ghost use Rattle.std.specs.List.{filter};
 ghost use Rattle.upd_core.specs.Library.{is_deck_kind};
 ghost use Rattle.upd_text.specs.Outcome.{Does, Gives};
@@ -7,7 +7,7 @@ ghost use Rattle.upd_deck.specs.Items.{PurDeck, Purge, PurgeFrom, SelPurge};
 ghost use Rattle.upd_apply.specs.LineEdits.{ended, purged_in_all};
 ghost use Rattle.upd_apply.specs.Step.{carried_out, judged};
 ghost use Rattle.upd_apply.specs.Names.{is_in};
-ghost use Rattle.upd_apply.specs.Purges.{decks_purged, idents_purged, pair_ages, pairs_purged};
+ghost use Rattle.upd_apply.specs.Purges.{decks_purged, idents_purged, idents_with, pair_ages, pairs_purged};
 
 use crate::names::{AgeRange, deck_ages, ident_ages, known_deck, known_ident};
 use crate::state::{InsertPoint, State};
@@ -63,7 +63,7 @@ impl State {
         ensures { Does result self.new (carried_out (judged (SelPurge pairs.now) [] self.old) self.old) }
     {
         let ages = pairs_purged(&self.library, pairs)?;
-        purge_in_all(&mut self.library, &ages);
+        purge_in_all(&mut self.library, ages)?;
         self.end();
         Ok(())
     }
@@ -87,13 +87,31 @@ impl State {
     }
 }
 
-/// Purges idents, each in one deck, in order.
-fn purge_in_all(library: &mut Library, pairs: &[AgePair])
-    ensures { library.new ≡ purged_in_all pairs.now library.old }
+/// Purges idents, each in one deck: those of one deck together, since a purge visits each card of its deck.
+fn purge_in_all(library: &mut Library, pairs: Vec<AgePair>) -> Result<(), AllocError>
+    ensures { OnOk result (library.new ≡ purged_in_all pairs.items library.old) }
 {
-    for pair in pairs {
-        library.purge_in(pair.deck, pair.ident);
+    let mut left = pairs;
+    while !left.is_empty() {
+        let deck = left[0].deck;
+        let idents = idents_with(&left, deck)?;
+        library.purge_in(deck, &idents)?;
+        left.retain(|pair| pair.deck != deck);
     }
+    Ok(())
+}
+
+/// The idents that pairs have with a deck.
+fn idents_with(pairs: &Vec<AgePair>, deck: Serial) -> Result<Vec<Serial>, AllocError>
+    ensures { IfOk result (λ idents. idents.items ≡ idents_with deck pairs.now.items) }
+{
+    let mut idents = Vec::new(*pairs.allocator());
+    for pair in pairs {
+        if pair.deck == deck {
+            idents.push(pair.ident)?;
+        }
+    }
+    Ok(idents)
 }
 
 /// The serials of the idents that `*PURGE` names.
