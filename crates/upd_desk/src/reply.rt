@@ -39,7 +39,7 @@ pub fn fault_answer(alloc: Global, fault: Fault) -> Result<Vec<u8>, Fault>
         FaultKind::NoMemory | FaultKind::Store => Err(fault),
         _ => match fault_text(alloc, fault) {
             Ok(text) => Ok(text),
-            Err(_) => Err(FaultKind::NoMemory.without_line()),
+            Err(lost) => Err(Fault::from(lost)),
         },
     }
 }

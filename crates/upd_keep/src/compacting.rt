@@ -99,7 +99,7 @@ fn compared<S: Rising + Drop>(
                 Ok(found) => match are_same_tables(alloc, tables, &found) {
                     Ok(true) => Ok(made),
                     Ok(false) => Err(store_at(0)),
-                    Err(_) => Err(no_memory()),
+                    Err(lost) => Err(no_memory(lost)),
                 },
                 Err(error) => Err(fault_of(error)),
             }

@@ -34,9 +34,7 @@ fn bytes_of<D: Disk>(alloc: Global, disk: &mut D) -> Result<Vec<u8>, Fault>
     let Ok(len) = disk.len() else {
         return Err(store_at(0));
     };
-    let Ok(mut bytes) = vec![in alloc; 0u8; len] else {
-        return Err(FaultKind::NoMemory.without_line());
-    };
+    let mut bytes = vec![in alloc; 0u8; len]?;
     match disk.read_at(0, &mut bytes) {
         Ok(()) => Ok(bytes),
         Err(_) => Err(store_at(0)),

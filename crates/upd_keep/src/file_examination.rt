@@ -25,7 +25,7 @@ use upd_core::Ident;
 use upd_examine::findings;
 use upd_records::RunRow;
 use upd_sqlite::Rising;
-use upd_store::{SqlStore, fault_of, has_frames, store_at};
+use upd_store::{SqlStore, fault_of, has_frames, no_memory, store_at};
 use upd_text::{Fault, FaultKind};
 
 /// What was found in the tables of a library.
@@ -63,7 +63,7 @@ pub fn examine_tables<S: Rising>(
     match all_rows(conn, alloc) {
         Ok(all) => match judged(alloc, &all, size) {
             Ok(found) => Ok(found),
-            Err(_) => Err(FaultKind::NoMemory.without_line()),
+            Err(lost) => Err(no_memory(lost)),
         },
         Err(error) => Err(fault_of(error)),
     }

@@ -20,8 +20,8 @@ use upd_records::LibraryRows;
 use upd_row_store::assembled;
 use upd_sql::library_rows_in;
 use upd_sqlite::{Rising, begin};
-use upd_store::{fault_of, store_at};
-use upd_text::{Fault, FaultKind};
+use upd_store::{fault_of, no_memory, store_at};
+use upd_text::Fault;
 
 /// The rows of the four tables that a library is made of, read in a transaction that is rolled back.
 fn rows_of<S: Rising>(
@@ -67,7 +67,7 @@ pub fn load_rows<S: Rising>(alloc: Global, conn: &mut Connection<S>) -> Result<L
     match rows_of(conn, alloc, version) {
         Ok(rows) => match assembled(alloc, rows) {
             Ok(library) => Ok(library),
-            Err(_) => Err(FaultKind::NoMemory.without_line()),
+            Err(lost) => Err(no_memory(lost)),
         },
         Err(error) => Err(fault_of(error)),
     }

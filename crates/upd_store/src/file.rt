@@ -26,6 +26,7 @@ use crate::sql_store::SqlStore;
 use crate::store_faults::{fault_of, no_memory, store_at};
 use sqlite::{Connection, FileFrom, FileStore, Files, Start};
 use sqlite_disk::Disk;
+use std::alloc::AllocError;
 use std::fs::{OpenOptions, Permissions};
 use std::io::Read;
 use std::os::unix::fs::{OpenOptionsExt, PermissionsExt};
@@ -116,7 +117,7 @@ pub(crate) fn refuse_exposed(rt: &HostRuntime, path: &str) -> Result<(), Fault>
     }
     match is_exposed(rt, path) {
         Ok(true) => Err(store_at(0)),
-        Err(error) if error.kind() == io::ErrorKind::OutOfMemory => Err(no_memory()),
+        Err(error) if error.kind() == io::ErrorKind::OutOfMemory => Err(no_memory(AllocError)),
         _ => Ok(()),
     }
 }
@@ -208,7 +209,7 @@ fn file_fault(error: io::Error) -> Fault
     ensures lost { IsLost result }
 {
     match error.kind() {
-        io::ErrorKind::OutOfMemory => no_memory(),
+        io::ErrorKind::OutOfMemory => no_memory(AllocError),
         _ => store_at(0),
     }
 }

@@ -28,7 +28,7 @@ use sqlite_std_file::OpenError;
 use sqlite_store::Unopened;
 use sqlite_trees::error::StoreError;
 use sqlite_wal::{probe_first_page, probe_page_size};
-use std::alloc::{AllocFailed, Global};
+use std::alloc::{AllocError, AllocFailed, Global};
 use std::hash::{BuildHasher, RandomState};
 use std::io;
 use upd_sqlite::Rising;
@@ -122,7 +122,7 @@ fn over_either<S: Rising + Drop>(
     let mut store = store;
     let is_served = match serves(&mut store, alloc, purpose) {
         Ok(is_served) => is_served,
-        Err(StoreError::OutOfMemory) => return Err(no_memory()),
+        Err(StoreError::OutOfMemory) => return Err(no_memory(AllocError)),
         Err(_) => return Err(store_at(0)),
     };
     if is_served {
@@ -212,8 +212,8 @@ fn files_fault(error: OpenError) -> Fault
     ensures { IsUnopened result }
 {
     match error {
-        OpenError::OutOfMemory => no_memory(),
-        OpenError::Io(error) if error.kind() == io::ErrorKind::OutOfMemory => no_memory(),
+        OpenError::OutOfMemory => no_memory(AllocError),
+        OpenError::Io(error) if error.kind() == io::ErrorKind::OutOfMemory => no_memory(AllocError),
         _ => store_at(0),
     }
 }

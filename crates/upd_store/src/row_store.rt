@@ -75,7 +75,7 @@ impl<S: Rising> RowStore for SqlStore<S> {
                     self.decks_read = reads_with(self.decks_read, &library);
                     Ok(library)
                 }
-                Err(_) => Err(no_memory()),
+                Err(lost) => Err(no_memory(lost)),
             },
             Err(error) => Err(counted(error, &mut self.failures)),
         }
@@ -91,7 +91,7 @@ impl<S: Rising> RowStore for SqlStore<S> {
                     self.decks_read = reads_with(self.decks_read, &library);
                     Ok(library)
                 }
-                Err(_) => Err(no_memory()),
+                Err(lost) => Err(no_memory(lost)),
             },
             Err(error) => Err(counted(error, &mut self.failures)),
         }
@@ -104,7 +104,7 @@ impl<S: Rising> RowStore for SqlStore<S> {
         match stored_library_rows(&mut self.conn, alloc) {
             Ok(rows) => match ages_of_decks(alloc, &rows.cards, cards) {
                 Ok(ages) => Ok(decks_by_age(ages)),
-                Err(_) => Err(no_memory()),
+                Err(lost) => Err(no_memory(lost)),
             },
             Err(error) => Err(counted(error, &mut self.failures)),
         }
@@ -137,7 +137,7 @@ impl<S: Rising> RowStore for SqlStore<S> {
         match stored_active(&mut self.conn, alloc) {
             Ok(rows) => match assembled_active(alloc, rows.idents, rows.cards, rows.states) {
                 Ok(actives) => Ok(actives),
-                Err(_) => Err(no_memory()),
+                Err(lost) => Err(no_memory(lost)),
             },
             Err(error) => Err(counted(error, &mut self.failures)),
         }

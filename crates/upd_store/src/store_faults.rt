@@ -5,16 +5,17 @@ ghost use Rattle.upd_row_store.specs.Keeping.{IsLost, failures_with};
 ghost use Rattle.upd_store.specs.Faults.{IsUnopened, kind_for};
 
 use sqlite::{Error, ErrorCode};
+use std::alloc::AllocError;
 use upd_text::{Fault, FaultKind};
 
-/// Out of memory. It counts as no failure of the store.
-pub fn no_memory() -> Fault
+/// Out of memory, as a fault. It counts as no failure of the store.
+pub fn no_memory(lost: AllocError) -> Fault
     ensures lost { IsLost result }
     ensures kind { result.kind ≡ NoMemory }
     ensures at { result.at ≡ 0 }
     ensures count { (failures : ℕ) → failures ≡ failures_with result.kind failures }
 {
-    FaultKind::NoMemory.without_line()
+    Fault::from(lost)
 }
 
 /// A failure of the store, at the version that was found.
@@ -33,7 +34,7 @@ pub fn fault_of(error: Error) -> Fault
     ensures at { result.at ≡ 0 }
 {
     match error {
-        Error::SqliteFailure(ErrorCode::OutOfMemory) => no_memory(),
+        Error::SqliteFailure(ErrorCode::OutOfMemory) => no_memory(AllocError),
         _ => store_at(0),
     }
 }

@@ -9,7 +9,7 @@ use crate::tree_finds::{mark_under, run_under};
 use crate::tree_reads::{active_rows, library_rows, records, states, stored_runs};
 use sqlite_trees::error::StoreError;
 use sqlite_trees::store::Store;
-use std::alloc::Global;
+use std::alloc::{AllocError, Global};
 use upd_core::{Actives, CardRef, Change, Library, Serial, States};
 use upd_records::{LibraryRows, MarkRow, RunRow};
 use upd_row_store::{
@@ -59,7 +59,7 @@ fn failed_read(error: StoreError, failures: &mut u64) -> Fault
     ensures grows { failures.old ≤ failures.new }
 {
     match error {
-        StoreError::OutOfMemory => no_memory(),
+        StoreError::OutOfMemory => no_memory(AllocError),
         _ => refused(failures),
     }
 }
@@ -118,7 +118,7 @@ impl<S: Store> RowStore for TreeStore<S> {
                     self.decks_read = reads_with(self.decks_read, &library);
                     Ok(library)
                 }
-                Err(_) => Err(no_memory()),
+                Err(lost) => Err(no_memory(lost)),
             },
             Err(error) => Err(failed_read(error, &mut self.failures)),
         }
@@ -131,7 +131,7 @@ impl<S: Store> RowStore for TreeStore<S> {
                     self.decks_read = reads_with(self.decks_read, &library);
                     Ok(library)
                 }
-                Err(_) => Err(no_memory()),
+                Err(lost) => Err(no_memory(lost)),
             },
             Err(error) => Err(failed_read(error, &mut self.failures)),
         }
@@ -144,7 +144,7 @@ impl<S: Store> RowStore for TreeStore<S> {
                     self.decks_read = reads_with(self.decks_read, &library);
                     Ok(library)
                 }
-                Err(_) => Err(no_memory()),
+                Err(lost) => Err(no_memory(lost)),
             },
             Err(error) => Err(failed_read(error, &mut self.failures)),
         }
@@ -154,7 +154,7 @@ impl<S: Store> RowStore for TreeStore<S> {
         match library_rows(&mut self.store, alloc) {
             Ok(rows) => match ages_of_decks(alloc, rows.cards.as_slice(), cards) {
                 Ok(ages) => Ok(decks_by_age(ages)),
-                Err(_) => Err(no_memory()),
+                Err(lost) => Err(no_memory(lost)),
             },
             Err(error) => Err(failed_read(error, &mut self.failures)),
         }
@@ -178,7 +178,7 @@ impl<S: Store> RowStore for TreeStore<S> {
         match active_rows(&mut self.store, alloc) {
             Ok(rows) => match assembled_active(alloc, rows.idents, rows.cards, rows.states) {
                 Ok(actives) => Ok(actives),
-                Err(_) => Err(no_memory()),
+                Err(lost) => Err(no_memory(lost)),
             },
             Err(error) => Err(failed_read(error, &mut self.failures)),
         }

@@ -63,6 +63,6 @@ pub(crate) fn report_path<E: io::Write>(
     let parts: [&str; 5] = ["upd: ", what, path, why, "\n"];
     match parts.concat(alloc) {
         Ok(line) => write_out(faults, line.as_bytes()),
-        Err(_) => Err(FaultKind::NoMemory.without_line()),
+        Err(lost) => Err(Fault::from(lost)),
     }
 }

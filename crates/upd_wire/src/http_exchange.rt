@@ -113,8 +113,8 @@ pub(crate) fn serve_request<R: Read, W: Write, S: RowStore>(
             let sent = exchange.send(writer, &mut head);
             (exchange, sent)
         }
-        Err(_) => {
-            let fault = FaultKind::NoMemory.without_line();
+        Err(lost) => {
+            let fault = Fault::from(lost);
             (Exchange::failed(alloc, fault), Err(fault))
         }
     }

@@ -1,4 +1,4 @@
-use Rattle.upd_keep.proofs.Common.{refl, ap, state, Fault, OfMemory, OfStore, survives_itself}
+use Rattle.upd_keep.proofs.Common.{refl, state, OfMemory, OfStore, survives_itself}
 use Rattle.upd_keep.proofs.file_examination.examine_tables.Goals as goal
 
 pub returns-then-not-is_autocommit-clause-examines : goal.returns-then-not-is_autocommit-clause-examines
@@ -18,5 +18,5 @@ returns-in-Ok-clause-examines g c = record {
   one = λ clean. tt;
   found = λ clean. tt;
   reads = c.in-Ok.ensures.reads;
-  lost = OfMemory _ (ap (λ (f : Fault). f.kind) c.without_line.ensures) (ap (λ (f : Fault). f.at) c.without_line.ensures);
+  lost = OfMemory _ c.no_memory.ensures.kind c.no_memory.ensures.at;
 }

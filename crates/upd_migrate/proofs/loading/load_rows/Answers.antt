@@ -1,11 +1,10 @@
-use Rattle.upd_migrate.proofs.Common.{◌≡◌, ◌⊎◌, ℕ, inl, refl, sym, subst, state, HasCleanDisk, HasVersion}
+use Rattle.upd_migrate.proofs.Common.{◌≡◌, ◌⊎◌, ℕ, inl, state, HasCleanDisk, HasVersion}
 use Rattle.upd_row_store.specs.Keeping.{OfMemory}
-use Rattle.upd_store.specs.Faults.{IsUnopened}
 use Rattle.upd_migrate.proofs.PassedFaults.{passed_on}
 use Rattle.upd_migrate.proofs.loading.load_rows.Goals as goal
 
 pub returns-in-Err-assembled-clause-unopened : goal.returns-in-Err-assembled-clause-unopened
-returns-in-Err-assembled-clause-unopened g c = subst IsUnopened (sym c.without_line.ensures) (inl (OfMemory _ refl refl))
+returns-in-Err-assembled-clause-unopened g c = inl (OfMemory _ c.no_memory.ensures.kind c.no_memory.ensures.at)
 
 pub returns-in_err-version-clause-version : goal.returns-in_err-version-clause-version
 returns-in_err-version-clause-version g c =
