@@ -59,7 +59,8 @@ first_twice : (k : ℕ) (f g h : List CardView → List CardView) → ((cs : Lis
 first_twice k f g h p [] = refl
 first_twice k f g h p (d ∷ ds) = go (d.ident == k) refl
   where
-    go : (b : Bool) → (d.ident == k) ≡ b → at_first (is_deck k) (changed f) (at_first (is_deck k) (changed g) (d ∷ ds)) ≡ at_first (is_deck k) (changed h) (d ∷ ds)
+    go : (b : Bool) → (d.ident == k) ≡ b → at_first (is_deck k) (changed f) (at_first (is_deck k) (changed g) (d ∷ ds))
+        ≡ at_first (is_deck k) (changed h) (d ∷ ds)
     go true e = rw (e, e) (ap (λ cs. record d { cards = cs } ∷ ds) (p d.cards))
     go false e = rw (e, e) (ap (λ t. d ∷ t) (first_twice k f g h p ds))
 
@@ -107,7 +108,8 @@ first_apart k m f g other [] = refl
 first_apart k m f g other (d ∷ ds) = go (d.ident == k) refl (d.ident == m) refl
   where
     go : (a : Bool) → (d.ident == k) ≡ a → (b : Bool) → (d.ident == m) ≡ b
-        → at_first (is_deck k) (changed f) (at_first (is_deck m) (changed g) (d ∷ ds)) ≡ at_first (is_deck m) (changed g) (at_first (is_deck k) (changed f) (d ∷ ds))
+        → at_first (is_deck k) (changed f) (at_first (is_deck m) (changed g) (d ∷ ds))
+        ≡ at_first (is_deck m) (changed g) (at_first (is_deck k) (changed f) (d ∷ ds))
     go true i true j = let same = both_numbers d.ident k m i j in absurd (cc)
     go true i false j = rw (i, j) refl
     go false i true j = rw (i, j) refl

@@ -13,7 +13,8 @@ pub use Rattle.upd_core.proofs.Common.{option_map_or, refl, rules, subst, suc, s
 pub use Rattle.upd_core.specs.Library.{deck_of}
 pub use Rattle.upd_core.specs.Status.{LiveView}
 pub use Rattle.upd_core.specs.declared.target.Target.{Target}
-pub use Rattle.upd_correct.specs.Checked.{AreDecksFrom, AreLeft, Corrects, Empty, HasTexts, IsChecked, IsDeckLeft, LeadsCards, New, Old, held_serials, new_decks}
+pub use Rattle.upd_correct.specs.Checked.{AreDecksFrom, AreLeft, Corrects, Empty, HasTexts, IsChecked, IsDeckLeft, LeadsCards, New, Old, held_serials}
+pub use Rattle.upd_correct.specs.Checked.{new_decks}
 pub use Rattle.upd_correct.specs.Correcting.{CorrectsSince, CorrectsTo}
 pub use Rattle.upd_correct.specs.EditedText.{NewDeck, lines_in, texts_of}
 pub use Rattle.upd_correct.specs.LineReads.{HasDecks, HasReading}

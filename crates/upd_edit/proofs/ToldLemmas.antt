@@ -84,7 +84,8 @@ fitting text since l is = ap (λ long. at_line 0 (refuse_if long RunLong) >>= (�
 pub base_found : (since : List ℕ) (l taken : LibraryView) (last : ℕ) → as_of since l ≡ Ok taken → last ≡ unwrap_or (ident_of since l) 0
     → (P : EditBase → Type 0) → P (record { taken = taken; last = last; met = l }) → IsOkAnd (base_in (Some since) l) P
 base_found since l taken last found is P holds =
-    subst (λ (r : Result LibraryView Fault). IsOkAnd (r >>= (λ (taken : LibraryView). Ok (record { taken = taken; last = unwrap_or (ident_of since l) 0; met = l }))) P)
+    subst (λ (r : Result LibraryView Fault). IsOkAnd (r >>= (λ (taken : LibraryView). Ok
+    (record { taken = taken; last = unwrap_or (ident_of since l) 0; met = l }))) P)
     (sym found) (subst (λ (serial : ℕ). P (record { taken = taken; last = serial; met = l })) is holds)
 
 -- no such library
@@ -92,7 +93,8 @@ pub base_failed : (since : List ℕ) (l : LibraryView) (fault : Fault) → IsLos
     → IsLost fault ⊎ (base_in (Some since) l ≡ Err fault)
 base_failed since l fault (inl lost) = inl lost
 base_failed since l fault (inr failed) =
-    inr (ap (λ (r : Result LibraryView Fault). r >>= (λ (taken : LibraryView). Ok (record { taken = taken; last = unwrap_or (ident_of since l) 0; met = l }))) failed)
+    inr (ap (λ (r : Result LibraryView Fault). r >>= (λ (taken : LibraryView). Ok
+    (record { taken = taken; last = unwrap_or (ident_of since l) 0; met = l }))) failed)
 
 -- ---- why there is no run, as the desk tells it
 

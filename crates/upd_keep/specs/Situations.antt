@@ -6,7 +6,8 @@ use Rattle.sqlite.specs.declared.error.ErrorCode.TheVariants as code
 use Rattle.sqlite.specs.declared.error.Error.{Error}
 use Rattle.sqlite.specs.declared.error.Error.TheVariants.{SqliteFailure}
 use Rattle.upd_keep.specs.declared.situation.Situation.{Situation}
-use Rattle.upd_keep.specs.declared.situation.Situation.TheVariants.{LogAlone, NoFile, NoTarget, Folder, NotRegular, SecondName, OpenFolder, ForeignLog, ClosedLog, Empty}
+use Rattle.upd_keep.specs.declared.situation.Situation.TheVariants.{LogAlone, NoFile, NoTarget, Folder, NotRegular, SecondName, OpenFolder, ForeignLog}
+use Rattle.upd_keep.specs.declared.situation.Situation.TheVariants.{ClosedLog, Empty}
 use Rattle.upd_keep.specs.declared.situation.Situation.TheVariants.{NotSqlite, NoPermission, ReadOnly, CannotOpen, InUse, Damaged, BreaksRules, NotLibrary}
 use Rattle.upd_keep.specs.declared.situation.Situation.TheVariants.{OlderSchema, OtherTables, Unreadable, NewerSchema}
 

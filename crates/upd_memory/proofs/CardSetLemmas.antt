@@ -1,6 +1,8 @@
 -- Rows of a set of cards that go, and the decks in which they were.
-use Rattle.upd_memory.proofs.Common.{◌≡◌, ℕ, ◌+◌, ◌<◌, ◌==◌, Bool, true, false, not, cond, if◌then◌else◌, List, [], ◌∷◌, ◌++◌, length, take, get_or, ap, sym, refl}
-use Rattle.upd_memory.proofs.Common.{◌∙◌, ◌&&◌, ◌||◌, subst, filter, list_any, BTreeMap, Vec, CardRef, CardRow, StateRow, IsSame, same_ref, same_filter, filter_twice}
+use Rattle.upd_memory.proofs.Common.{◌≡◌, ℕ, ◌+◌, ◌<◌, ◌==◌, Bool, true, false, not, cond, if◌then◌else◌, List, [], ◌∷◌, ◌++◌, length, take, get_or, ap, sym}
+use Rattle.upd_memory.proofs.Common.{refl}
+use Rattle.upd_memory.proofs.Common.{◌∙◌, ◌&&◌, ◌||◌, subst, filter, list_any, BTreeMap, Vec, CardRef, CardRow, StateRow, IsSame, same_ref, same_filter}
+use Rattle.upd_memory.proofs.Common.{filter_twice}
 use Rattle.upd_memory.proofs.Common.{AreCards, AreHomes, cards_at, is_home}
 use Rattle.std.proofs.lemmas.List.{take_more}
 use Rattle.upd_memory.proofs.Common.{None, Some, Decides-eqb, by_name, get, is_eq, option_map_or}
@@ -42,7 +44,8 @@ once_or_twice gone false true rows mid new first second = second ∙ ap (filter 
 once_or_twice gone false false rows mid new first second = second ∙ first
 
 -- rows of one card more go
-pub rows_left : {A : Type 0} (card_of : A → CardRef) (cards : List CardRef) (i : ℕ) (card : CardRef) (rows : List A) → i < length cards → card ≡ get_or cards i card
+pub rows_left : {A : Type 0} (card_of : A → CardRef) (cards : List CardRef) (i : ℕ) (card : CardRef) (rows : List A) → i < length cards → card
+    ≡ get_or cards i card
     → filter (λ r. not (same_ref card (card_of r))) (filter (λ r. not (is_among (take i cards) (card_of r))) rows)
     ≡ filter (λ r. not (is_among (take (i + 1) cards) (card_of r))) rows
 rows_left card_of cards i card rows within is =
@@ -77,7 +80,8 @@ none_here d (c ∷ cards) rows none =
     none_of true false m e f = f
     none_of false s m e f = refl
 
-    either : (rs : List CardRow) → list_any (λ r. (r.deck == d) && same_ref c r.card) rs ≡ false → list_any (λ r. (r.deck == d) && is_among cards r.card) rs ≡ false
+    either : (rs : List CardRow) → list_any (λ r. (r.deck == d) && same_ref c r.card) rs ≡ false
+        → list_any (λ r. (r.deck == d) && is_among cards r.card) rs ≡ false
         → list_any (λ r. (r.deck == d) && (same_ref c r.card || is_among cards r.card)) rs ≡ false
     either [] e f = refl
     either (r ∷ rs) e f =
@@ -85,7 +89,8 @@ none_here d (c ∷ cards) rows none =
         (none_of (r.deck == d) (same_ref c r.card) (is_among cards r.card) (first _ _ e) (first _ _ f)) ∙ either rs (second _ _ e) (second _ _ f)
 
 -- the rows of all decks, once those of the decks in which cards were have lost theirs
-pub cards_left : {Z : Type 0} (old new : BTreeMap ℕ (Vec CardRow Z)) (homes : BTreeMap CardRef ℕ) (rows : List CardRow) (cards : List CardRef) (gone : CardRef → Bool)
+pub cards_left : {Z : Type 0} (old new : BTreeMap ℕ (Vec CardRow Z)) (homes : BTreeMap CardRef ℕ) (rows : List CardRow) (cards : List CardRef)
+    (gone : CardRef → Bool)
     (listed : List ℕ) → ((card : CardRef) → gone card ≡ is_among cards card)
     → ((d : ℕ) → serials.is_among listed d ≡ list_any (λ c. is_home homes c d) cards)
     → ((d : ℕ) → cards_at new d ≡ cond (serials.is_among listed d) (filter (λ r. not (gone r.card)) (cards_at old d)) (cards_at old d))

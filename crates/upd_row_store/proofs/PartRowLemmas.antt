@@ -1,6 +1,8 @@
 -- Of the rows of a library those of a part are kept.
-use Rattle.upd_row_store.proofs.Common.{◌≡◌, ℕ, ◌+◌, ◌<◌, ◌==◌, Bool, true, false, ◌&&◌, ◌||◌, cond, List, [], ◌∷◌, zero, suc, length, get_or, take, refl, ap, sym}
-use Rattle.upd_row_store.proofs.Common.{◌∙◌, subst, arith, nat_tests, filter, list_any, is_among, is_eq, nat_cmp, slice_cmp, bytes_eq, by_name, is_same-is_eq, same_filter}
+use Rattle.upd_row_store.proofs.Common.{◌≡◌, ℕ, ◌+◌, ◌<◌, ◌==◌, Bool, true, false, ◌&&◌, ◌||◌, cond, List, [], ◌∷◌, zero, suc, length, get_or, take, refl, ap}
+use Rattle.upd_row_store.proofs.Common.{sym}
+use Rattle.upd_row_store.proofs.Common.{◌∙◌, subst, arith, nat_tests, filter, list_any, is_among, is_eq, nat_cmp, slice_cmp, bytes_eq, by_name, is_same-is_eq}
+use Rattle.upd_row_store.proofs.Common.{same_filter}
 use Rattle.upd_row_store.proofs.Common.{CardRef, CardRow, EntryRow, IsSame, same_ref}
 use Rattle.std.specs.BTreeSet as sorted
 use Rattle.std.specs.BTreeSet.{BTreeSet}

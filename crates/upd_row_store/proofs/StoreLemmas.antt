@@ -1,6 +1,7 @@
 -- What a store keeps, and what a crash leaves of it, over several calls.
 use Rattle.upd_row_store.proofs.Common.{◌≡◌, ℕ, ◌≤◌, Result, Ok, Err, refl, sym, ap, ◌∙◌, subst, rules, arith, IsErrAnd, Fault, NoMemory, LibraryView, Rows}
-use Rattle.upd_row_store.proofs.Common.{MoreFailures, failures_after, failures_with, DeckView, IsSound, List, [], ◌∷◌, Shows, filter, is_among, length, not, part_of}
+use Rattle.upd_row_store.proofs.Common.{MoreFailures, failures_after, failures_with, DeckView, IsSound, List, [], ◌∷◌, Shows, filter, is_among, length, not}
+use Rattle.upd_row_store.proofs.Common.{part_of}
 use Rattle.std.proofs.Common.{◌⊎◌, OnErr, OnOk, inl, inr}
 use Rattle.upd_text.specs.Faults.{fault_at}
 use Rattle.upd_row_store.specs.declared.meaning.Meaning.{Ghosts}

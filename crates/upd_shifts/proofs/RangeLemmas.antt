@@ -55,7 +55,8 @@ rows_both Card p q both rows is =
     (filter_both (λ r. p r.card) (λ r. q r.card) (λ r. both r.card) rows.states (λ r. is r.card))
 
 -- the same cards, in other words
-pub rows_alike : (which : CardRows) (p q : CardRef → Bool) (rows : Rows) → ((card : CardRef) → p card ≡ q card) → without_rows which p rows ≡ without_rows which q rows
+pub rows_alike : (which : CardRows) (p q : CardRef → Bool) (rows : Rows) → ((card : CardRef) → p card ≡ q card) → without_rows which p rows
+    ≡ without_rows which q rows
 rows_alike Entries p q rows is = ap (λ xs. record rows { entries = xs }) (filter_alike (λ r. p r.card) (λ r. q r.card) rows.entries (λ r. is r.card))
 rows_alike Targets p q rows is = ap (λ xs. record rows { targets = xs }) (filter_alike (λ r. p r.card) (λ r. q r.card) rows.targets (λ r. is r.card))
 rows_alike Card p q rows is =
@@ -69,7 +70,8 @@ one_or true b = refl
 one_or false true = refl
 one_or false false = refl
 
-pub among_more : (cards more : List CardRef) (last : CardRef) → more ≡ cards ++ last ∷ [] → (card : CardRef) → is_among more card ≡ (is_among cards card || same_ref last card)
+pub among_more : (cards more : List CardRef) (last : CardRef) → more ≡ cards ++ last ∷ [] → (card : CardRef) → is_among more card
+    ≡ (is_among cards card || same_ref last card)
 among_more cards more last is card =
     ap (λ cs. is_among cs card) is ∙ any_append (λ c. same_ref c card) cards (last ∷ []) ∙ one_or (is_among cards card) (same_ref last card)
 
@@ -84,7 +86,8 @@ rows_stay Card rows =
 -- at first none goes
 pub none_goes : (gone : GoneCards) → gone.entries.items ≡ [] → gone.targets.items ≡ [] → gone.cards.items ≡ [] → (rows : Rows) → without_cards gone rows ≡ rows
 none_goes gone entries targets cards rows =
-    ap (λ cs. without_rows Card (is_among cs) (without_rows Targets (is_among gone.targets.items) (without_rows Entries (is_among gone.entries.items) rows))) cards
+    ap (λ cs. without_rows Card (is_among cs) (without_rows Targets (is_among gone.targets.items)
+    (without_rows Entries (is_among gone.entries.items) rows))) cards
     ∙ rows_stay Card (without_rows Targets (is_among gone.targets.items) (without_rows Entries (is_among gone.entries.items) rows))
     ∙ ap (λ cs. without_rows Targets (is_among cs) (without_rows Entries (is_among gone.entries.items) rows)) targets
     ∙ rows_stay Targets (without_rows Entries (is_among gone.entries.items) rows)
@@ -100,7 +103,8 @@ change_more changes i change rows within is =
     ∙ map-append change_view (take i changes) (change ∷ [])))
 
 -- the ranges so far, and the last one with one card more
-pub last_more : (before last more first among card : Bool) → more ≡ (last || card) → (before || last) ≡ (first || among) → (before || more) ≡ (first || (among || card))
+pub last_more : (before last more first among card : Bool) → more ≡ (last || card) → (before || last) ≡ (first || among) → (before || more)
+    ≡ (first || (among || card))
 last_more before last more first among card is rest = ap (λ b. before || b) is ∙ turn before last card ∙ ap (λ b. b || card) rest ∙ sym (turn first among card)
   where
     turn : (a b c : Bool) → (a || (b || c)) ≡ ((a || b) || c)

@@ -19,7 +19,8 @@ use Rattle.upd_records.specs.Fits.{CanMove}
 use Rattle.upd_records.specs.Rows.{CardRow}
 use Rattle.upd_shifts.specs.declared.moves.Move.{Move}
 use Rattle.upd_shifts.specs.declared.shift.Shift.{Shift}
-use Rattle.upd_shifts.specs.Shifts.{AreApart, CanShiftAll, IsChain, IsRight, covers_by, first_of, is_behind, last_of, moved_all, moved_pos, shifted_all, shifted_row}
+use Rattle.upd_shifts.specs.Shifts.{AreApart, CanShiftAll, IsChain, IsRight, covers_by, first_of, is_behind, last_of, moved_all, moved_pos, shifted_all}
+use Rattle.upd_shifts.specs.Shifts.{shifted_row}
 
 -- ---- lists
 
@@ -136,7 +137,8 @@ module _ (deck from : ℕ) where
       let row : shifted_row deck from t r ≡ moved_row deck from s.by r = ap (λ u. shifted_row deck from u r) is
       ∙ ap (λ b. if b then moved_row deck from s.by r else r) here in
       let others = all_weaker (λ u. covers_by u (moved_row deck from s.by r).card ≡ false)
-      (λ u before. ap (covers_by u) (same_card s r) ∙ apart_cards s u r.card (subst (λ v. by_name (last_of v) (first_of u) ≡ Less) is before) here) ss apart.0 in
+      (λ u before. ap (covers_by u) (same_card s r) ∙ apart_cards s u r.card (subst
+      (λ v. by_name (last_of v) (first_of u) ≡ Less) is before) here) ss apart.0 in
       let rest = uncovered ss (moved_row deck from s.by r) others in (
         (λ c behind. subst (λ (u : Shift). CanMove u.by r.pos) (sym is) can, subst (CanShiftAll deck from ss) (sym row) rest.0),
         ap (shifted_all deck from ss) row ∙ rest.1,

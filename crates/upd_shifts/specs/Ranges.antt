@@ -31,7 +31,8 @@ without_rows Card goes rows = record rows { cards = filter (λ r. not (goes r.ca
 -- the tables without the rows of the cards in ranges
 abbrev pub without : Gone → Rows → Rows
 without gone rows =
-    without_rows Card (in_ranges gone.cards.items) (without_rows Targets (in_ranges gone.targets.items) (without_rows Entries (in_ranges gone.entries.items) rows))
+    without_rows Card (in_ranges gone.cards.items) (without_rows Targets (in_ranges gone.targets.items)
+    (without_rows Entries (in_ranges gone.entries.items) rows))
 
 -- the tables without the rows of these cards
 abbrev pub without_cards : GoneCards → Rows → Rows

@@ -1,5 +1,6 @@
 -- Moves of a deck's cards in order, and shifts that do the same at once.
-use Rattle.std.specs.Prelude.{◌≡◌, ℕ, ◌+◌, ◌-◌, ℤ, pos, negsuc, ◌==◌, ◌≤◌, ◌<◌, nat_le, Bool, ◌&&◌, if◌then◌else◌, IsTrue, IfSome, List, [], ◌∷◌, map, Option, Some, None}
+use Rattle.std.specs.Prelude.{◌≡◌, ℕ, ◌+◌, ◌-◌, ℤ, pos, negsuc, ◌==◌, ◌≤◌, ◌<◌, nat_le, Bool, ◌&&◌, if◌then◌else◌, IsTrue, IfSome, List, [], ◌∷◌, map, Option}
+use Rattle.std.specs.Prelude.{Some, None}
 use Rattle.std.specs.List.{AllByRecursion}
 use Rattle.std.specs.Str.{bytes_eq}
 use Rattle.std.specs.declared.cmp.Ordering.TheVariants.{Less}

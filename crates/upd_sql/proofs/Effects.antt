@@ -89,19 +89,22 @@ module _ (old new : State) (count : ℕ) (it : Rows) (h : HoldsTables it old.now
       → HoldsTables (record it { entries = filter (λ r. not (in_range s r.card)) it.entries }) new.now
   entries_gone s ran =
       removes 3 6 (codes "entries") entry_columns (1 ∷ 2 ∷ 3 ∷ []) refl refl (λ _ _. refl) entry_row (stored it) it.entries refl text.delete_entries
-      (range_params s) text.delete_entries_does.plain old new count ran h text.range_tests text.delete_entries_does.is refl (λ r. in_range s r.card) (entry_ranged s)
+      (range_params s) text.delete_entries_does.plain old new count ran h text.range_tests text.delete_entries_does.is refl (λ r. in_range s r.card)
+      (entry_ranged s)
 
   pub targets_gone : (s : CardRange) → Executes text.delete_targets (range_params s) old new (Ok count)
       → HoldsTables (record it { targets = filter (λ r. not (in_range s r.card)) it.targets }) new.now
   targets_gone s ran =
       removes 4 8 (codes "targets") target_columns (1 ∷ 2 ∷ 3 ∷ []) refl refl (λ _ _. refl) target_row (stored it) it.targets refl text.delete_targets
-      (range_params s) text.delete_targets_does.plain old new count ran h text.range_tests text.delete_targets_does.is refl (λ r. in_range s r.card) (target_ranged s)
+      (range_params s) text.delete_targets_does.plain old new count ran h text.range_tests text.delete_targets_does.is refl (λ r. in_range s r.card)
+      (target_ranged s)
 
   pub states_gone : (s : CardRange) → Executes text.delete_states (range_params s) old new (Ok count)
       → HoldsTables (record it { states = filter (λ r. not (in_range s r.card)) it.states }) new.now
   states_gone s ran =
       removes 6 12 (codes "states") state_columns (1 ∷ 2 ∷ []) refl refl (λ _ _. refl) state_row (stored it) it.states refl text.delete_states
-      (range_params s) text.delete_states_does.plain old new count ran h text.range_tests text.delete_states_does.is refl (λ r. in_range s r.card) (state_ranged s)
+      (range_params s) text.delete_states_does.plain old new count ran h text.range_tests text.delete_states_does.is refl (λ r. in_range s r.card)
+      (state_ranged s)
 
   pub count_gone : (t : Target) → Executes text.delete_count (target_code t) old new (Ok count)
       → HoldsTables (record it { counts = filter (λ r. not (is_same t r.target)) it.counts }) new.now

@@ -73,7 +73,8 @@ module _ (deck from : ℕ) where
         → (if passes (shift_params deck from s) text.move_shift_tests (card_row r) then cast_all card_columns
         (eval_all text.move_shift_news (shift_params deck from s ∷ (Null ∷ card_row r) ∷ [])) else card_row r) ≡ card_row (shifted_row deck from s r)
     each r can =
-        ap (λ b. if b then cast_all card_columns (eval_all text.move_shift_news (shift_params deck from s ∷ (Null ∷ card_row r) ∷ [])) else card_row r) (covered r)
+        ap (λ b. if b then cast_all card_columns (eval_all text.move_shift_news (shift_params deck from s ∷
+        (Null ∷ card_row r) ∷ [])) else card_row r) (covered r)
         ∙ go (covers_by s r.card) (is_behind deck from r) can
       where
         go : (a b : Bool) → (IsTrue a → IsTrue b → CanMove s.by r.pos)

@@ -1,5 +1,6 @@
 -- Rows of cards that go, range after range.
-use Rattle.upd_sql.proofs.Common.{◌≡◌, ℕ, ◌+◌, ◌<◌, Bool, true, false, not, List, [], ◌∷◌, ◌++◌, map, filter, take, length, get_or, Result, Ok, Err, refl, sym, ap, subst}
+use Rattle.upd_sql.proofs.Common.{◌≡◌, ℕ, ◌+◌, ◌<◌, Bool, true, false, not, List, [], ◌∷◌, ◌++◌, map, filter, take, length, get_or, Result, Ok, Err, refl, sym}
+use Rattle.upd_sql.proofs.Common.{ap, subst}
 use Rattle.upd_sql.proofs.Common.{◌∙◌, IsErr, Error, State, CardRef, Rows, HoldsTables, AnyTables, Makes, makes_then, makes_as, without_states}
 use Rattle.std.proofs.Common.{◌||◌}
 use Rattle.upd_records.proofs.EffectLemmas.{any_append}
@@ -24,7 +25,8 @@ none_removed which s x = record {
 }
 
 -- one range more
-range_more : (ranges : List CardRange) (range : CardRange) (card : CardRef) → in_ranges (ranges ++ range ∷ []) card ≡ (in_ranges ranges card || in_range range card)
+range_more : (ranges : List CardRange) (range : CardRange) (card : CardRef) → in_ranges (ranges ++ range ∷ []) card
+    ≡ (in_ranges ranges card || in_range range card)
 range_more ranges range card = any_append (λ r. in_range r card) ranges (range ∷ []) ∙ one_or (in_ranges ranges card) (in_range range card)
 
 pub one_removed : {X Y : Type 0} (which : CardRows) (ranges : List CardRange) (range : CardRange) (a b c : State) (x : X) (y : Y)

@@ -53,7 +53,8 @@ module _ (deck from : ℕ) where
   one_shifted ss s a b c x y p q =
       let whole = makes_as HoldsTables _ (AllCanShift deck from (ss ++ s ∷ [])) _ (with_all_shifted deck from (ss ++ s ∷ [])) a c (Ok y)
       (can_push ss s) (shifted_push ss s)
-      (makes_then HoldsTables (AllCanShift deck from ss) (CanShift deck from s) (with_all_shifted deck from ss) (with_shifted deck from s) a b c x (Ok y) p q) in
+      (makes_then HoldsTables (AllCanShift deck from ss) (CanShift deck from s) (with_all_shifted deck from ss) (with_shifted deck from s) a b c x
+      (Ok y) p q) in
       record { steps = record { going = whole.steps.going; kept = whole.steps.kept; survives = whole.steps.survives }; made = whole.made }
 
   -- ---- row by row

@@ -1,5 +1,6 @@
 -- A status that is changed in its place, or put after all others, by the number of rows that its card had.
-use Rattle.upd_sql.proofs.Common.{◌≡◌, ℕ, Bool, List, [], ◌∷◌, ◌++◌, map, length, Result, Ok, Err, sym, ap, subst, ◌∙◌, ne_eqb, Error, State, CardRef, done, same_ref}
+use Rattle.upd_sql.proofs.Common.{◌≡◌, ℕ, Bool, List, [], ◌∷◌, ◌++◌, map, length, Result, Ok, Err, sym, ap, subst, ◌∙◌, ne_eqb, Error, State, CardRef, done}
+use Rattle.upd_sql.proofs.Common.{same_ref}
 use Rattle.upd_sql.proofs.Common.{restated, status_rows, Rows, StateRow, Makes, clean_before, steps_then, CountsStatuses, AnyTables, HoldsTables}
 use Rattle.upd_sql.proofs.Common.{with_restated, with_state, without_states}
 use Rattle.std.proofs.Common.{◌≢◌, cond}

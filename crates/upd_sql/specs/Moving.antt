@@ -32,4 +32,5 @@ changed_if false change rows = rows
 -- A step that may be made: where it is answered that it is, tables are changed; else they stay.
 pub record MakesIf (change : Rows → Rows) (old new : State) (r : Result Bool Error) : Type 0 where
   pub steps : Steps old new r
-  pub made : HasCleanDisk new → IfOk r (λ done. IsTrue old.in_transaction → (it : Rows) → HoldsTables it old.now → HoldsTables (changed_if done change it) new.now)
+  pub made : HasCleanDisk new → IfOk r (λ done. IsTrue old.in_transaction → (it : Rows) → HoldsTables it old.now
+      → HoldsTables (changed_if done change it) new.now)

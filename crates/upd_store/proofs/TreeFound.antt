@@ -104,4 +104,5 @@ module _ {D : Type 0} {g : Ghosts D} (old : Unopened D g) (opened : FileStore D 
 
     pub finds_trees : (held : Image) → image old ≡ held → ((db : Trees) (h : HoldsDatabase held db) → stored_size h.0 ≡ stored_size size)
         → FindsTrees held (view opened).trees
-    finds_trees held seen = subst (λ i. ((db : Trees) (h : HoldsDatabase i db) → stored_size h.0 ≡ stored_size size) → FindsTrees i (view opened).trees) seen found_at
+    finds_trees held seen = subst (λ i. ((db : Trees) (h : HoldsDatabase i db) → stored_size h.0 ≡ stored_size size)
+        → FindsTrees i (view opened).trees) seen found_at

@@ -1,6 +1,8 @@
 -- Frames of runs, one after the other, and their numbers.
-use Rattle.upd_subcommands.proofs.Common.{◌≡◌, ℕ, ◌+◌, ◌<◌, ◌≤◌, ◌⊎◌, List, [], ◌∷◌, ◌++◌, length, refl, sym, ap, ◌∙◌, subst, arith, append_assoc, AllByRecursion}
-use Rattle.upd_subcommands.proofs.Common.{arrival_view, frame_text, frames_text, IsAdmitted, frames_from, inl, inr, cases_lt, Option, None, Some, Keeps, Ghosts, Vec, Global, map, Result, Ok, Err, IsErrAnd, Fault}
+use Rattle.upd_subcommands.proofs.Common.{◌≡◌, ℕ, ◌+◌, ◌<◌, ◌≤◌, ◌⊎◌, List, [], ◌∷◌, ◌++◌, length, refl, sym, ap, ◌∙◌, subst, arith, append_assoc}
+use Rattle.upd_subcommands.proofs.Common.{AllByRecursion}
+use Rattle.upd_subcommands.proofs.Common.{arrival_view, frame_text, frames_text, IsAdmitted, frames_from, inl, inr, cases_lt, Option, None, Some, Keeps, Ghosts}
+use Rattle.upd_subcommands.proofs.Common.{Vec, Global, map, Result, Ok, Err, IsErrAnd, Fault}
 use Rattle.upd_subcommands.proofs.Common.{EditError, Failed, Refused}
 use Rattle.std.proofs.Common.{IfErr, suc, codes}
 use Rattle.std.proofs.lemmas.List.{flat_map_more, length-map}
@@ -103,7 +105,8 @@ module _ {S : Type 0} (meaning : Ghosts S) where
       → spool ≡ frames_text (frames_from site number mode (bytes_of shown)) → AllByRecursion IsAdmitted (frames_from site number mode (bytes_of shown))
       → EachHeld meaning mid new (λ j. IsFirstUsed j site number end found) → end ≡ number + length runs
       → EachHeld meaning old new (λ j. IsSeen j set site number mode text spool used)
-  spool_seen set given site number end mode text spool runs shown found used old mid new same all is first last corrects frames admitted seen count honest j held =
+  spool_seen set given site number end mode text spool runs shown found used old mid new same all is first last corrects frames admitted seen count
+      honest j held =
       let before : is_honest mid = last.later.honest honest in (
         record {
           runs = bytes_of runs;

@@ -17,7 +17,8 @@ module _ {S : Type 0} (meaning : Ghosts S) where
   held_still old mid keeps honest journal held = λ is.
       subst (HoldsIn shows journal) (sym (keeps.same honest is)) (held (keeps.later.was_open honest is))
 
-  pub tried_as : (mode : List ℕ) (since : Option (List ℕ)) (run : List ℕ) (answer : Result ReplyView Fault) (warnings : Result (List Warning) Fault) (old mid new : S)
+  pub tried_as : (mode : List ℕ) (since : Option (List ℕ)) (run : List ℕ) (answer : Result ReplyView Fault) (warnings : Result (List Warning) Fault)
+      (old mid new : S)
       → Tells meaning (reply_on (tried mode run)) answer old mid → Keeps meaning old mid
       → Tells meaning (warning_list since run) warnings mid new → Keeps meaning mid new
       → IsTriedAs meaning mode since run answer warnings old new

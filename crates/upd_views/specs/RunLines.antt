@@ -1,5 +1,6 @@
 -- One line for each stored run: its site, number and mode, and what its reply says.
-use Rattle.std.specs.Prelude.{◌≡◌, ℕ, Bool, if◌then◌else◌, List, [], ◌∷◌, ◌++◌, ◌==◌, ◌-◌, ◌||◌, codes, decimal, drop, get_or, length, take, Option, None, option_and_then}
+use Rattle.std.specs.Prelude.{◌≡◌, ℕ, Bool, if◌then◌else◌, List, [], ◌∷◌, ◌++◌, ◌==◌, ◌-◌, ◌||◌, codes, decimal, drop, get_or, length, take, Option, None}
+use Rattle.std.specs.Prelude.{option_and_then}
 use Rattle.std.specs.Prelude.{IsPermutation, IsSorted}
 use Rattle.std.specs.Cmp.Lexicographic.{slice_cmp}
 use Rattle.std.specs.Ordering.{nat_cmp, ordering_then}

@@ -6,7 +6,8 @@ use Rattle.upd_core.proofs.edits.purge_deck.Goals as goal
 
 pub returns-in-Some : goal.returns-in-Some
 returns-in-Some c =
-    at_first_found (is_deck c.args.age) (deck_without (is_gone c.args.gone.now)) c.args.decks.now.items c.in-Some.i _ _ _ (rw c.deref.ensures.value at c.in-Some.ensures.first)
+    at_first_found (is_deck c.args.age) (deck_without (is_gone c.args.gone.now)) c.args.decks.now.items c.in-Some.i _ _ _
+    (rw c.deref.ensures.value at c.in-Some.ensures.first)
     (c.deck.view_is ∙ c.index_mut-deck.ensures.value) (rw c.purge_cards.ensures)
 
 pub returns-in_default : goal.returns-in_default

@@ -10,7 +10,13 @@ pub returns-in-Ok-arrive-clause-arrives : goal.returns-in-Ok-arrive-clause-arriv
 returns-in-Ok-arrive-clause-arrives g c =
     arrived g.S.Meaning c.args.since.now (arrival_view c.args.site.now c.args.number c.args.mode.now c.args.run.now) c.in-Ok.met.items
     c.in-Ok-arrive.reply c.args.desk.now.store c.conflicts_at.new.desk.store c.arrive.new.self.store c.in-Ok.ensures.same
-    (nil_from_length c.in-Ok.met.items (grind (arith, nat_tests, c.in-Ok.met.ok, c.is_empty.ensures, c.if-is_empty.true))) c.in-Ok.ensures.list c.in-Ok-arrive.ensures.arrives
+    (nil_from_length c.in-Ok.met.items (grind (
+      arith,
+      nat_tests,
+      c.in-Ok.met.ok,
+      c.is_empty.ensures,
+      c.if-is_empty.true,
+    ))) c.in-Ok.ensures.list c.in-Ok-arrive.ensures.arrives
 
 pub returns-then-is_empty-clause-arrives : goal.returns-then-is_empty-clause-arrives
 returns-then-is_empty-clause-arrives g c =

@@ -16,7 +16,8 @@ loop-card-preserved g = λ x.
     let last = g.loop-card.last in
     let ranges = g.loop-card.ranges.items in
     let among : is_among (take (i + 1) cards) x ≡ (is_among (take i cards) x || same_ref card x) =
-    among_more (take i cards) (take (i + 1) cards) card (take_more cards i card g.loop-card-test.true ∙ ap (λ c. take i cards ++ c ∷ []) (sym g.card-item.is)) x in
+    among_more (take i cards) (take (i + 1) cards) card (take_more cards i card g.loop-card-test.true
+    ∙ ap (λ c. take i cards ++ c ∷ []) (sym g.card-item.is)) x in
     elim g.match-and.branch [
       | in-Some w ↦ rw (among, w.ranges-is, w.last-is)
           (last_more (in_ranges ranges x) (in_range last x) (in_range w.in-Some.more x) (same_ref first x) (is_among (take i cards) x) (same_ref card x)

@@ -1,5 +1,6 @@
 use Rattle.upd_sql.proofs.Common.{Ok, Err, rules, state, HasEmptyTables, Transforms, no_rows, HoldsTables}
-use Rattle.upd_sql.proofs.MakingLemmas.{transforms_stop, transforms_then, opened_before, makes_meta, makes_idents, makes_cards, makes_entries, makes_targets, makes_runs}
+use Rattle.upd_sql.proofs.MakingLemmas.{transforms_stop, transforms_then, opened_before, makes_meta, makes_idents, makes_cards, makes_entries, makes_targets}
+use Rattle.upd_sql.proofs.MakingLemmas.{makes_runs}
 use Rattle.upd_sql.proofs.MakingLemmas.{makes_states, makes_counts, makes_settled}
 use Rattle.upd_sql.proofs.make.make_tables.Goals as goal
 

@@ -18,7 +18,8 @@ returns-then-are_behind g c =
     record {
       same_reference = c.in_ok-rows.ensures.same_reference;
       does =
-          looks_as (λ it found. found.items ≡ filter (is_behind deck from) it.cards) (λ it found. IfSome found (λ shifts. AllRight deck from ms shifts.items it))
+          looks_as (λ it found. found.items ≡ filter (is_behind deck from) it.cards)
+          (λ it found. IfSome found (λ shifts. AllRight deck from ms shifts.items it))
           old new rows c.shifts_of.result
           (λ it is. on_some c.shifts_of.result c.shifts_of.ensures
           (λ shifts right. all_right deck from ms shifts.items it.cards low

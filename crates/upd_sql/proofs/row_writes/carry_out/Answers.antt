@@ -8,6 +8,7 @@ returns-in-TargetsGone g c = record {
   does =
       let old = state g.S.Store c.args.tx.now.conn.now in
       let new = state g.S.Store c.remove-in-TargetsGone.new.tx.conn.now in
-      subst (λ (change : Change). Makes {X = Unit {0}} HoldsTables (Fits (change_view change)) (done (change_view change)) old new c.remove-in-TargetsGone.result)
+      subst (λ (change : Change). Makes {X = Unit {0}} HoldsTables (Fits (change_view change))
+      (done (change_view change)) old new c.remove-in-TargetsGone.result)
       (sym c.in-TargetsGone.is) c.remove-in-TargetsGone.ensures.does;
 }

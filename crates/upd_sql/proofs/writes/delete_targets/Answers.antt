@@ -14,5 +14,6 @@ returns g c = record {
       let old = state g.S.Store c.args.tx.now.conn.now in
       let new = state g.S.Store c.run.new.tx.conn.now in
       makes_from AnyTables (without_rows Targets (in_range c.args.range.now)) delete_targets (range_params c.args.range.now) old new c.run.result
-      (rw (c.name.ensures, c.number.ensures, c.number-2.ensures) at c.run.ensures.ran) (λ count ran it fits h. targets_gone old new count it h c.args.range.now ran);
+      (rw (c.name.ensures, c.number.ensures, c.number-2.ensures) at c.run.ensures.ran)
+      (λ count ran it fits h. targets_gone old new count it h c.args.range.now ran);
 }

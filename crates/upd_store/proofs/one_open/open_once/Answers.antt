@@ -17,10 +17,12 @@ pub returns-clause-below : goal.returns-clause-below
 returns-clause-below g c =
     let (log, db) = c.in-Ok.ensures.fresh in
     let same = ap₂ image (ap₂ (seen g.St.Start.log g.St.Start.db) log.0 log.1) (ap₂ (seen g.St.Start.log g.St.Start.db) db.0 db.1) in
-    subst (λ i. IfOk c.opened.result (λ l. IfOk l (λ s. IsClean (view s.store) → FindsTrees i (view s.store).committed × IsLibrary (view s.store).committed))) same c.opened.ensures.below
+    subst (λ i. IfOk c.opened.result (λ l. IfOk l (λ s. IsClean (view s.store) → FindsTrees i (view s.store).committed
+    × IsLibrary (view s.store).committed))) same c.opened.ensures.below
 
 pub returns-clause-found : goal.returns-clause-found
 returns-clause-found g c =
     let (log, db) = c.in-Ok.ensures.fresh in
     let same = ap₂ image (ap₂ (seen g.St.Start.log g.St.Start.db) log.0 log.1) (ap₂ (seen g.St.Start.log g.St.Start.db) db.0 db.1) in
-    subst (λ i. IfOk c.opened.result (λ l. IfErr l (λ s. HasCleanDisk (file_state s.conn) → IsTrue (file_state s.conn).is_open → FindsIn i (file_state s.conn)))) same c.opened.ensures.found
+    subst (λ i. IfOk c.opened.result (λ l. IfErr l (λ s. HasCleanDisk (file_state s.conn) → IsTrue (file_state s.conn).is_open
+    → FindsIn i (file_state s.conn)))) same c.opened.ensures.found

@@ -33,4 +33,5 @@ returns-in-Ok-stored-clause-found g c = ok_then c.over_either.result c.over_eith
     record { holds = λ db held. same ∙ found.holds db held; reads = subst (AreFoundIn start) (sym same) found.reads }))
 
 pub returns-in-Ok-stored-clause-ours : goal.returns-in-Ok-stored-clause-ours
-returns-in-Ok-stored-clause-ours g c = ok_then c.over_either.result c.over_either.ensures.above (λ l h. err_then l h (λ s taken clean is_open. taken.ours clean is_open))
+returns-in-Ok-stored-clause-ours g c = ok_then c.over_either.result c.over_either.ensures.above
+    (λ l h. err_then l h (λ s taken clean is_open. taken.ours clean is_open))

@@ -13,7 +13,8 @@ returns-in-Ok-None-clause-spool g c honest journal held =
     seen_free journal c.args.set.now c.args.site.now c.args.number c.args.mode.now c.args.text.now c.in-Ok-spool_of.spool.items
     (spool_seen g.S.Meaning c.args.set.now _ c.args.site.now c.args.number _ c.args.mode.now c.args.text.now c.in-Ok-spool_of.spool.items
     c.in-Ok.runs.items _ _ None c.args.desk.now.store c.parts_at.new.desk.store c.first_used.new.desk.store c.as_bytes.ensures.value c.deref.ensures.value
-    c.in-Ok-None.field-0-is c.in-Ok.ensures.same c.in-Ok-None.ensures.same c.in-Ok.ensures.corrects c.in-Ok-spool_of.ensures.frames c.in-Ok-spool_of.ensures.admitted
+    c.in-Ok-None.field-0-is c.in-Ok.ensures.same c.in-Ok-None.ensures.same c.in-Ok.ensures.corrects c.in-Ok-spool_of.ensures.frames
+    c.in-Ok-spool_of.ensures.admitted
     c.in-Ok-None.ensures.first (omega (arith, c.in-Ok.runs.ok.0)) honest journal held)
 
 pub returns-in-Ok-None-clause-same : goal.returns-in-Ok-None-clause-same
