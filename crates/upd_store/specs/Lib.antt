@@ -1,4 +1,5 @@
 pub mod Beginning
+pub mod Exposure
 pub mod Faults
 pub mod One
 pub mod OneOpen

@@ -1,6 +1,7 @@
 -- What a read of a store of trees leaves and finds.
 use Rattle.std.specs.Prelude.{◌≡◌, [], ◌∷◌, false, Result, IfErr, IfOk, OnOk, IsTrue}
 use Rattle.sqlite_trees.specs.declared.error.StoreError.{StoreError}
+use Rattle.sqlite_trees.specs.declared.error.StoreError.TheVariants.{OutOfMemory}
 use Rattle.sqlite_trees.specs.declared.store.Store.{Ghosts}
 use Rattle.sqlite_trees.specs.Tree.{Trees}
 use Rattle.sqlite_trees.specs.View.{View, IsClean, IsFailure, IsQuiet, KeepsSchema}
@@ -13,6 +14,8 @@ use Rattle.upd_sqlite.specs.Stored.{HasRows}
 use Rattle.upd_sql.specs.Commits.{ShowsIn}
 use Rattle.upd_sql.specs.Encoded.{version_row}
 use Rattle.upd_sql.specs.Schema.{library_schema, meta}
+use Rattle.upd_text.specs.declared.fault.FaultKind.{FaultKind}
+use Rattle.upd_text.specs.declared.fault.FaultKind.TheVariants.{NoMemory, Store}
 
 -- these are the rows of the four tables that a library is made of, in their order
 pub record ListsLibrary (it : Rows) (found : LibraryRows) : Type 0 where
@@ -20,6 +23,11 @@ pub record ListsLibrary (it : Rows) (found : LibraryRows) : Type 0 where
   pub cards : found.cards.items ≡ it.cards
   pub entries : found.entries.items ≡ it.entries
   pub targets : found.targets.items ≡ it.targets
+
+-- out of memory is NoMemory, any other error of the trees a failure of the store
+abbrev pub kind_of_read : StoreError → FaultKind
+kind_of_read OutOfMemory = NoMemory
+kind_of_read _ = Store
 
 -- nothing is written, and no failure waits for a rollback
 abbrev pub IsWhole : View → Type 0

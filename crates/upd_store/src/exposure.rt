@@ -2,6 +2,7 @@
 //!
 //! Only paths are asked, before the file is opened.
 ghost use Rattle.std.specs.Prelude.{◌≡◌, ◌⊎◌, IsTrue};
+ghost use Rattle.upd_store.specs.Exposure.{folder_of, is_open_mode};
 
 use crate::log_file::{is_missing, log_path, real_path};
 use std::os::unix::fs::MetadataExt;
@@ -29,12 +30,16 @@ pub fn is_open_folder(rt: &HostRuntime, path: &str) -> io::Result<bool> {
     Ok(is_open_mode(mode))
 }
 
-fn is_open_mode(mode: u32) -> bool {
+fn is_open_mode(mode: u32) -> bool
+    ensures { result ≡ is_open_mode mode }
+{
     mode & ALL_WRITE != 0 && mode & STICKY == 0
 }
 
 /// The folder of a file: the current one for a bare name.
-fn folder_of(path: &str) -> &str {
+fn folder_of(path: &str) -> &str
+    ensures { result.now ≡ folder_of path.now }
+{
     match Path::new(path).parent() {
         Some(folder) if !folder.as_str().is_empty() => folder.as_str(),
         _ => ".",

@@ -2,7 +2,7 @@
 ghost use Rattle.std.specs.Prelude.{◌≡◌, ◌≤◌, IfErr};
 ghost use Rattle.upd_row_store.specs.Keeping.{IsLost, failures_with};
 ghost use Rattle.upd_row_store.specs.Tables.{ListsRuns};
-ghost use Rattle.upd_store.specs.TreeReads.{Answers, IsWhole};
+ghost use Rattle.upd_store.specs.TreeReads.{Answers, IsWhole, kind_of_read};
 
 use crate::store_faults::{no_memory, refused};
 use crate::tree_finds::{mark_under, run_under};
@@ -55,6 +55,7 @@ impl<S: Store> TreeStore<S> {
 /// The fault of a read that failed. A failure of the store is counted, out of memory is not.
 fn failed_read(error: StoreError, failures: &mut u64) -> Fault
     ensures lost { IsLost result }
+    ensures kind { result.kind ≡ kind_of_read error }
     ensures count { failures.new ≡ failures_with result.kind failures.old }
     ensures grows { failures.old ≤ failures.new }
 {

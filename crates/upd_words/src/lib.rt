@@ -11,6 +11,7 @@ mod operands;
 mod querying;
 mod words;
 
+pub use operands::most_digits_are_nine;
 pub use querying::{Query, View};
 pub use words::{
     Command, Endpoint, Request, read_words, requests_have_names, serve_is_read, trial_is_read,

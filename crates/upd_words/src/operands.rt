@@ -6,6 +6,7 @@ ghost use Rattle.clap.specs.Words.{found_of, rows_of};
 ghost use Rattle.upd_text.specs.Names.{is_digit, number_behind};
 ghost use Rattle.upd_words.specs.Operands.{IsNoAddress, card_read, is_number, name_read, number_read};
 ghost use Rattle.upd_words.specs.Words.{IsCount, SpellsCount, operand_in};
+ghost use Rattle.upd_words.specs.declared.operands.TheConstants.{MAX_DIGITS};
 
 use clap::ArgMatches;
 use std::net::SocketAddr;
@@ -13,6 +14,11 @@ use upd_text::{CardRef, Fault, FaultKind, Name, all_digits};
 
 /// The most digits of a run number.
 pub const MAX_DIGITS: usize = 9;
+
+/// The most digits of a run number, as a number.
+pub fn most_digits_are_nine()
+    ensures { MAX_DIGITS ≡ 9 }
+{}
 
 /// The word of an operand, which is required.
 pub(crate) fn word<'a>(operands: &ArgMatches<'a>, name: &str) -> &'a str
