@@ -53,8 +53,8 @@ WritesReport (report.Library (examined.Sound line) log) end =
     (ended : Result ℕ Fault) × Writes 0 (log_line log ++ line.items) ended end.output end.output' × IsEndOf ended end.status end.faults end.faults'
 WritesReport (report.Library (examined.Unsound lines) log) end =
     Appends end.output end.output' [] × IsReported 1 (log_line log ++ lines.items) end.status end.faults end.faults'
-WritesReport (report.Other situation) end =
-    Appends end.output end.output' [] × IsReported 3 (situation_line (words_of situation)) end.status end.faults end.faults'
+WritesReport (report.Other situation pages) end =
+    Appends end.output end.output' [] × IsReported 3 (situation_line (words_of situation) ++ pages.items) end.status end.faults end.faults'
 
 -- what is at a path is reported; or that failed, and its fault is reported
 abbrev pub EndsReport : Result Report Fault → Ending → Type 0

@@ -47,7 +47,7 @@ fn write_report<W: Write, E: Write>(report: &Report, output: &mut W, faults: &mu
         Report::Library(Examined::Unsound(lines), log) => {
             write_unsound(log_line(*log), lines, faults)
         }
-        Report::Other(situation) => write_situation(situation.words(), faults),
+        Report::Other(situation, pages) => write_situation(situation.words(), pages, faults),
     }
 }
 
@@ -91,11 +91,11 @@ pub(crate) fn write_unsound<E: Write>(first: &[u8], lines: &[u8], faults: &mut E
     }
 }
 
-/// Writes why there is no library to examine to the fault stream, and returns the exit status.
-fn write_situation<E: Write>(words: &str, faults: &mut E) -> u8
-    ensures reported { IsReported 3 (situation_line words.now) result (E.contents faults.old) (E.contents faults.new) }
+/// Writes why there is no library to examine, and a line on pages, to the fault stream. Returns the exit status.
+fn write_situation<E: Write>(words: &str, pages: &[u8], faults: &mut E) -> u8
+    ensures reported { IsReported 3 (situation_line words.now ++ pages.now) result (E.contents faults.old) (E.contents faults.new) }
     ensures status { result ≡ 3 }
 {
-    let _ = write_parts_out(faults, &[b"upd: ", words.as_bytes(), b"\n"]);
+    let _ = write_parts_out(faults, &[b"upd: ", words.as_bytes(), b"\n", pages]);
     FAILED
 }

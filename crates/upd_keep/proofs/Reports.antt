@@ -18,13 +18,13 @@ use Rattle.upd_keep.specs.declared.file_examination.Report.TheVariants.{Library,
 pub of_file : {C : Type 0} (state : C → State) (held : Image) (opened : C) (report : Result Report Fault)
     → (HasCleanDisk (state opened) → FindsIn held (state opened)) → ReportsOn state opened report → ExaminesFile state held report
 of_file state held opened (Ok (Library found log)) finds said = (opened, finds, said)
-of_file state held opened (Ok (Other situation)) finds said = tt
+of_file state held opened (Ok (Other situation pages)) finds said = tt
 of_file state held opened (Err fault) finds lost = lost
 
 pub of_error : {C : Type 0} (state : C → State) (held : Image) (e : Error) (report : Result Report Fault) → SaysOpening e report
     → ExaminesFile state held report
 of_error state held e (Ok (Library found log)) said = absurd said
-of_error state held e (Ok (Other situation)) said = tt
+of_error state held e (Ok (Other situation pages)) said = tt
 of_error state held e (Err fault) lost = lost
 
 untold : (kind : StoreError) (old new : ℕ) (AtLimit Wanted : Type 0) (e : Error) → situation_of e ≡ None → kind_for e ≡ Store

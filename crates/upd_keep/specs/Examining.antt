@@ -97,13 +97,13 @@ pub record ExaminesLibrary (opened : State) (found : Examined) (old new : State)
 -- there is no library to examine, by the error of opening a database; or that was lost
 abbrev pub SaysOpening : Error → Result Report Fault → Type 0
 SaysOpening error (Ok (Library found log)) = ⊥
-SaysOpening error (Ok (Other situation)) = situation_of error ≡ Some situation
+SaysOpening error (Ok (Other situation pages)) = situation_of error ≡ Some situation
 SaysOpening error (Err fault) = IsLost fault
 
 -- a report of a library says whether its log has frames
 abbrev pub HasLog : Bool → Report → Type 0
 HasLog frames (Library found log) = log ≡ frames
-HasLog frames (Other situation) = Unit {0}
+HasLog frames (Other situation pages) = Unit {0}
 
 -- from these files no connection came: the disk failed once more, or they are too long
 abbrev pub FailsToOpen : {D : Type 0} → Ghosts D → Files D → Type 0
@@ -114,7 +114,7 @@ module _ {C : Type 0} (state : C → State) where
   -- What is said of a database is so of the library that it holds. What is no library is called by its version, or has a row that can't be read.
   abbrev pub ReportsOn : C → Result Report Fault → Type 0
   ReportsOn opened (Ok (Library found log)) = (old : C) × (new : C) × ExaminesLibrary (state opened) found (state old) (state new)
-  ReportsOn opened (Ok (Other situation)) =
+  ReportsOn opened (Ok (Other situation pages)) =
       (situation ≡ Unreadable)
       ⊎ ((old : C) × (at : ℕ) × (situation ≡ situation_at_version at)
       × (HasCleanDisk (state old) → (v : ℕ) → HasVersion v (state opened).committed → (at ≡ v) ⊎ (at ≡ 0)))
@@ -124,5 +124,5 @@ module _ {C : Type 0} (state : C → State) where
   abbrev pub ExaminesFile : Image → Result Report Fault → Type 0
   ExaminesFile held (Ok (Library found log)) =
       (opened : C) × (HasCleanDisk (state opened) → FindsIn held (state opened)) × ReportsOn opened (Ok (Library found log))
-  ExaminesFile held (Ok (Other situation)) = Unit {0}
+  ExaminesFile held (Ok (Other situation pages)) = Unit {0}
   ExaminesFile held (Err fault) = IsLost fault

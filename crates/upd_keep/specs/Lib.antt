@@ -1,4 +1,5 @@
 pub mod Keeping
+pub mod PageSums
 pub mod Copying
 pub mod Examining
 pub mod Replaying

@@ -14,6 +14,7 @@ ghost use Rattle.upd_text.specs.declared.fault.FaultKind.TheVariants.{NoMemory, 
 
 use crate::all_rows::{AllRows, all_rows};
 use crate::looking_at::situation_at;
+use crate::page_sums::wrong_pages_at;
 use crate::situation::{Situation, of_version};
 use itoa::Buffer;
 use sqlite::{Connection, Error, ErrorCode, FileFrom, Start};
@@ -42,8 +43,9 @@ pub enum Examined {
 pub enum Report {
     /// A library, what was found in its tables, and whether the log beside its file has frames.
     Library(Examined, bool),
-    /// Nothing that could be examined.
-    Other(Situation),
+    /// Nothing that could be examined, and a line on pages of the file that don't end in their sum, empty where there are
+    /// none.
+    Other(Situation, Vec<u8>),
 }
 
 /// Whether the tables of a connection are those of a sound library. Nothing changes. The fault is NoMemory or Store, at 0;
@@ -152,27 +154,32 @@ pub fn examine<St: Start>(rt: &HostRuntime, path: &str, start: St) -> Result<Rep
         × IsFresh false files.db × FailsToOpen ⟦<FileFrom<St> as Disk>⟧ files) }
 {
     if let Some(situation) = situation_at(rt, path) {
-        return Ok(Report::Other(situation));
+        return Ok(Report::Other(situation, Vec::new(rt.alloc())));
     }
     let log = has_frames(rt, path).unwrap_or(false);
     let size = fs::metadata(rt, path).map_or(0, |found| found.len());
     match Connection::open_from(rt, path, false, start) {
         Ok(conn) => examine_opened(rt.alloc(), conn, log, size),
-        Err((error, _)) => unopened(error),
+        Err((error, _)) => unopened(rt, path, error),
     }
 }
 
 /// Why a database can't be opened.
-fn unopened(error: Error) -> Result<Report, Fault>
+fn unopened(rt: &HostRuntime, path: &str, error: Error) -> Result<Report, Fault>
     ensures says { SaysOpening error result }
     ensures failed { IfErr result (λ fault. (situation_of error ≡ None) × (fault.kind ≡ kind_for error)) }
 {
+    let none = Vec::new(rt.alloc());
     match error {
-        Error::SqliteFailure(ErrorCode::DatabaseBusy) => Ok(Report::Other(Situation::InUse)),
-        Error::SqliteFailure(ErrorCode::CannotOpen) => Ok(Report::Other(Situation::CannotOpen)),
-        Error::SqliteFailure(ErrorCode::DatabaseCorrupt) => Ok(Report::Other(Situation::Damaged)),
+        Error::SqliteFailure(ErrorCode::DatabaseBusy) => Ok(Report::Other(Situation::InUse, none)),
+        Error::SqliteFailure(ErrorCode::CannotOpen) => {
+            Ok(Report::Other(Situation::CannotOpen, none))
+        }
+        Error::SqliteFailure(ErrorCode::DatabaseCorrupt) => {
+            Ok(Report::Other(Situation::Damaged, wrong_pages_at(rt, path)))
+        }
         Error::SqliteFailure(ErrorCode::NotADatabase) => {
-            Ok(Report::Other(Situation::BreaksRules))
+            Ok(Report::Other(Situation::BreaksRules, none))
         }
         error => Err(fault_of(error)),
     }
@@ -196,13 +203,13 @@ fn examine_opened<S: Rising + Drop>(
                 Ok(found) => Ok(Report::Library(found, log)),
                 Err(fault) => match fault.kind {
                     FaultKind::NoMemory => Err(FaultKind::NoMemory.without_line()),
-                    _ => Ok(Report::Other(Situation::Unreadable)),
+                    _ => Ok(Report::Other(Situation::Unreadable, Vec::new(alloc))),
                 },
             }
         }
         Err((fault, _)) => match fault.kind {
             FaultKind::NoMemory => Err(FaultKind::NoMemory.without_line()),
-            _ => Ok(Report::Other(of_version(fault))),
+            _ => Ok(Report::Other(of_version(fault), Vec::new(alloc))),
         },
     }
 }

@@ -11,6 +11,7 @@ mod crash_law;
 mod file_examination;
 mod looking_at;
 mod other_tables;
+mod page_sums;
 mod replaying;
 mod run_history;
 mod run_reads;

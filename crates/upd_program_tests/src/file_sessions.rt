@@ -77,7 +77,7 @@ fn is_unsound(report: &Report, lines: &str) -> Result<(), Fail> {
 /// No library was examined, but a path in this situation.
 fn is_other(report: &Report, wanted: Situation) -> Result<(), Fail> {
     match report {
-        Report::Other(situation) => same("the situation", *situation, wanted),
+        Report::Other(situation, _) => same("the situation", *situation, wanted),
         Report::Library(_, _) => Err(Fail::new(format_args!("a library, not {wanted:?}"))),
     }
 }
