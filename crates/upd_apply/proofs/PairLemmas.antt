@@ -151,7 +151,8 @@ purged_apart d (a ∷ more) l =
         → purged_in_all (others d (a ∷ more)) (purged_among d (idents_with d (a ∷ more)) l) ≡ purged_in_all (a ∷ more) l
     go true e later = rw e (ap (purged_in_all (others d more)) (sym (once ((Decides-eqb a.deck d).0 e))) ∙ later)
     go false e later =
-        rw e (ap (purged_in_all (others d more)) (sym (with_cards_apart d a.deck (without_idents (is_among zs)) (without_idents (λ x. x == a.ident)) e l)) ∙ later)
+        rw e (ap (purged_in_all (others d more)) (sym (with_cards_apart d a.deck (without_idents (is_among zs))
+        (without_idents (λ x. x == a.ident)) e l)) ∙ later)
 
 no_more : (test : AgesIn → Bool) (pairs : List AgesIn) → length (filter test pairs) ≤ length pairs
 no_more test [] = omega arith

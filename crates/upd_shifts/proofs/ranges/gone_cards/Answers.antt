@@ -5,7 +5,8 @@ use Rattle.upd_shifts.proofs.ranges.gone_cards.Goals as goal
 
 pub loop-change-init : goal.loop-change-init
 loop-change-init c =
-    none_goes (record { entries = c.new.result; targets = c.new-2.result; cards = c.new-3.result }) c.new.ensures.items c.new-2.ensures.items c.new-3.ensures.items
+    none_goes (record { entries = c.new.result; targets = c.new-2.result; cards = c.new-3.result }) c.new.ensures.items c.new-2.ensures.items
+    c.new-3.ensures.items
 
 pub loop-change-preserved : goal.loop-change-preserved
 loop-change-preserved c = λ rows.
