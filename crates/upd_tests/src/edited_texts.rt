@@ -62,7 +62,7 @@ const LONG: &[&[Part<'_>]] = &[
 ];
 
 /// Deck A, and sets: as many idents as a library holds.
-const FULL: &[&[Part<'_>]] = &[
+pub const FULL: &[&[Part<'_>]] = &[
     &[Part::Text("*DECK A\nONE")],
     &[Part::Idents(1, 2000)],
     &[Part::Idents(2001, 4000)],
