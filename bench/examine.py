@@ -165,6 +165,7 @@ def try_sound(upd, files):
 
 def changed(dice, file, copy, change):
     """Makes a change in a copy of a library, at a random row. Returns whether there is a row for it."""
+    Path(f"{copy}-wal").unlink(missing_ok=True)
     shutil.copyfile(file, copy)
     without_sums(copy)
     db = sqlite3.connect(copy, isolation_level=None)

@@ -31,12 +31,18 @@ def tests_of(crate):
 def without_sums(file):
     """Makes a library anew of its rows, without sums on its pages, which a plain SQLite spoils when it writes."""
     old = sqlite3.connect(file)
-    rows = "\n".join(old.iterdump())
+    # `iterdump` lists tables by their names, and a library has them in one order.
+    made = old.execute("SELECT name, sql FROM sqlite_master WHERE type = 'table' ORDER BY rowid").fetchall()
+    rows = {name: old.execute(f"SELECT * FROM {name} ORDER BY rowid").fetchall() for name, _ in made}
     old.close()
     for end in ("", "-wal", "-shm"):
         Path(f"{file}{end}").unlink(missing_ok=True)
-    new = sqlite3.connect(file, isolation_level=None)
-    new.executescript(rows)
+    new = sqlite3.connect(file)
+    for name, sql in made:
+        new.execute(sql)
+        for row in rows[name]:
+            new.execute(f"INSERT INTO {name} VALUES ({', '.join('?' * len(row))})", row)
+    new.commit()
     new.close()
 
 
