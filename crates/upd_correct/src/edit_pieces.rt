@@ -1,7 +1,7 @@
 //! An edit as a list of lines, which can be cut anywhere: up to a cut the edit is done, and after it not yet.
 //!
-//! The lines that stand for a range that goes are put by share with the cards of the range, so that at no cut both are
-//! missing. Nothing is proved of it: each text at a cut is only one on the way, and is led to by a run that is checked.
+//! The lines that stand for a range that goes are put by share before the cards of the range go, so that at no cut both
+//! are missing. Nothing is proved of it: each text at a cut is only one on the way, and is led to by a run that is checked.
 
 use crate::edited_deck::EditedDeck;
 use crate::plan::{Correction, added_decks, corrections_for};
@@ -101,19 +101,21 @@ fn push_correction<'a>(
     Ok(())
 }
 
-/// Appends the cards of a segment that goes and the lines that stand for it, by share: the first i of the cards come
-/// before line j where i is to the cards as j is to the lines.
+/// Appends the lines that stand for a segment that goes, and its cards, by share: where i of the cards are gone, at least as
+/// large a share of the lines is there.
 fn push_change<'a>(pieces: &mut Vec<Piece<'a>>, segment: &Segment<'a>) -> Result<(), AllocError> {
     let count = segment.cards.len();
     let mut next = 0;
     for (i, card) in segment.cards.iter().enumerate() {
+        let all = segment.lines.len().saturating_mul(i.saturating_add(1));
+        let end = all.div_ceil(count);
+        let lines = lines_between(&segment.lines, next, end);
+        push_lines(pieces, i == 0, lines)?;
         pieces.push(Piece {
             step: Step::Delete,
-            begins: i == 0,
+            begins: i == 0 && lines.is_empty(),
             text: &card.text,
         })?;
-        let end = segment.lines.len().saturating_mul(i.saturating_add(1)) / count;
-        push_lines(pieces, false, lines_between(&segment.lines, next, end))?;
         next = end;
     }
     Ok(())

@@ -37,10 +37,14 @@ fn warning_line(alloc: Global, run: &[u8], warning: &Warning) -> Result<String, 
 
 /// The words of a warning of a text that may be meant for a directive or call. The text is the line with a number.
 fn near_words(alloc: Global, run: &[u8], line: usize) -> Result<String, AllocError> {
-    let text = run
+    let line = run
         .split(|&byte| byte == b'\n')
         .nth(line.saturating_sub(1))
         .unwrap_or(b"");
+    let text = match line {
+        [before @ .., b'\r'] => before,
+        _ => line,
+    };
     let meant = near_word(alloc, word(text))?.unwrap_or(b"");
     let mut words = String::from_str(alloc, "*")?;
     words.push_str(shown(word(text)))?;

@@ -15,6 +15,7 @@ use std::fs::{OpenFile, OpenOptions};
 use std::io::{ErrorKind, Write};
 use std::os::unix::fs::{MetadataExt, OpenOptionsExt};
 use std::{fs, io};
+use upd_store::file::is_no_path;
 use upd_store::{fault_of, store_at};
 use upd_text::{Fault, FaultKind};
 
@@ -92,12 +93,15 @@ pub fn backup<D: Disk + Drop>(
     }
 }
 
-/// Makes a file with these bytes and at most the rights of another, which has no log and no journal. The name is given by a
-/// link, since a link never replaces a file.
+/// Makes a file with these bytes and at most the rights of another, which has no log and no journal, by a name that a library
+/// can have. The name is given by a link, since a link never replaces a file.
 fn write_new(rt: &HostRuntime, model: &str, path: &str, bytes: &[u8]) -> io::Result<()> {
     let part = format!(in rt.alloc(); "{path}.part")?;
     let log = format!(in rt.alloc(); "{path}-wal")?;
     let journal = format!(in rt.alloc(); "{path}-journal")?;
+    if is_no_path(path) {
+        return Err(io::Error::from(ErrorKind::InvalidInput));
+    }
     if is_taken(rt, path) || is_taken(rt, log.as_str()) || is_taken(rt, journal.as_str()) {
         return Err(io::Error::from(ErrorKind::AlreadyExists));
     }

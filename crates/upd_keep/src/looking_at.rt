@@ -28,14 +28,26 @@ pub(crate) fn situation_at(rt: &HostRuntime, path: &str) -> Option<Situation> {
     }
 }
 
-/// The situation of a path that can't be looked at: `init` makes no file where a link leads, nor in a folder that everybody
-/// may write.
+/// The situation of a path that can't be looked at: `init` makes no file where a link leads, in a folder that everybody may
+/// write, nor beside a log that it can't take.
 fn of_missing(rt: &HostRuntime, path: &str, situation: Situation) -> Situation {
     match situation {
         Situation::NoFile if fs::symlink_metadata(rt, path).is_ok() => Situation::NoTarget,
         Situation::NoFile if is_open_folder(rt, path).unwrap_or(false) => Situation::OpenFolder,
+        Situation::NoFile => of_log(rt, path).unwrap_or(situation),
         _ => situation,
     }
+}
+
+/// What is wrong with the log beside a path: another user's, or one that can't be opened.
+fn of_log(rt: &HostRuntime, path: &str) -> Option<Situation> {
+    if is_foreign_log(rt, path).unwrap_or(false) {
+        return Some(Situation::ForeignLog);
+    }
+    if is_closed_log(rt, path).unwrap_or(false) {
+        return Some(Situation::ClosedLog);
+    }
+    None
 }
 
 /// Why the file at a path is none that can be a library, or another user could put commits into it; None where neither is
@@ -47,8 +59,7 @@ fn kind_of(rt: &HostRuntime, path: &str) -> io::Result<Option<Situation>> {
         None | Some(Situation::Empty) if is_open_folder(rt, path).unwrap_or(false) => {
             Some(Situation::OpenFolder)
         }
-        None if is_foreign_log(rt, path).unwrap_or(false) => Some(Situation::ForeignLog),
-        None if is_closed_log(rt, path).unwrap_or(false) => Some(Situation::ClosedLog),
+        None | Some(Situation::Empty) => of_log(rt, path).or(kind),
         _ => kind,
     })
 }

@@ -1,5 +1,5 @@
 //! Pages of a file that don't end in their sum, as SQLite's cksumvfs sums.
-ghost use Rattle.std.specs.Prelude.{◌≡◌, ◌-◌, ◌≤◌, ◌<◌, ◌×◌, ◌↔◌, IsTrue, IfOk, IfSome, length};
+ghost use Rattle.std.specs.Prelude.{◌≡◌, ◌≤◌, ◌↔◌, IsTrue, IfOk, IfSome, length};
 ghost use Rattle.std.specs.List.{AllByRecursion};
 ghost use Rattle.upd_keep.specs.PageSums.{IsSummed, sum_bytes};
 

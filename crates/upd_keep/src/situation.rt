@@ -74,7 +74,7 @@ impl Situation {
                 "it is in use by another command or a server: try again once that has ended"
             }
             Situation::Damaged => {
-                "the file is damaged, or another program wrote it: restore a backup, or make it anew of `sqlite3 FILE .dump`; `sqlite3 FILE 'PRAGMA integrity_check'` says more"
+                "the file or its log is damaged, or another program wrote to one: copy both; then move away a log of another file, restore a backup, or use `sqlite3 COPY .dump`"
             }
             Situation::BreaksRules => {
                 "a database with tables or rows that upd can't take, or a damaged one: check the path, or restore a backup"

@@ -197,7 +197,7 @@ fn begins_as_text(rt: &HostRuntime, path: &str) -> io::Result<bool> {
 }
 
 /// Whether SQLite reads a path as something else than a file's name, or there is no room for the name of its journal.
-pub(crate) fn is_no_path(path: &str) -> bool {
+pub fn is_no_path(path: &str) -> bool {
     let name = Path::new(path).file_name();
     path == ":memory:"
         || path.starts_with("file:")

@@ -107,6 +107,34 @@ fn a_range_goes_with_the_lines_that_stand_for_it(rt: HostRuntime) -> Result<(), 
     )
 }
 
+/// Deck A with five lines that are replaced.
+const FIVE: &[&[Part<'_>]] = &[&[Part::Text("*DECK A\nFIRST\nSECOND\n5 x OLD\nLAST")]];
+
+/// Of a range of five lines behind so many new ones no line, old or new, is missing after a part.
+fn is_never_short(alloc: Global, before: usize) -> Result<(), Fail> {
+    let mut library = after_long(alloc, FIVE)?;
+    let lines = format!(in alloc; "*DECK A\nFIRST\n{before} x LINE\nSECOND\n5 x NEW\nLAST")?;
+    let edited = text_of(alloc, &[Part::Text(lines.as_str())])?;
+    let Ok(runs) = correct_parts(alloc, &library, b"Z", edited.as_bytes()) else {
+        return Err("the text is refused".into());
+    };
+    for run in &runs {
+        applied(&mut library, text(run)?)?;
+        let there = count(&library, "OLD")?.saturating_add(count(&library, "NEW")?);
+        holds("the lines of the range", there >= 5)?;
+    }
+    have_text(&library, &["A"], edited.as_str())
+}
+
+/// Wherever the parts are cut. Rule 10.63.6.
+#[test]
+fn no_line_of_a_range_is_missing_between_parts(rt: HostRuntime) -> Result<(), Fail> {
+    for before in 1_986..2_000 {
+        is_never_short(rt.alloc(), before)?;
+    }
+    Ok(())
+}
+
 /// A run has this text, and is applied.
 fn is_run(library: &mut Library, run: &[u8], wanted: &str) -> Result<(), Fail> {
     let wanted = text_of(library.allocator(), &[Part::Text(wanted)])?;

@@ -34,6 +34,11 @@ const WARNINGS: &[(&str, &str)] = &[
 upd: 6: *DELETTE is text, not *DELETE\nupd: 7: *DEKETE is text, not *DELETE\nupd: 8: *d is text, not *D\n\
 upd: 9: *CAL is text, not *CALL\n",
     ),
+    // The same where lines end in CR and LF (rule 2.2).
+    (
+        "*IDENT Z\r\n*INSERT A.2\r\n*YANKS\r\n*ident \r\n",
+        "upd: 3: *YANKS is text, not *YANK\nupd: 4: *ident is text, not *IDENT\n",
+    ),
     // Comments; a run that isn't read has no warnings.
     (
         "*IDENT Z\n*/ one\n*INSERT A.2\n*/two\n*delete\n*/",
