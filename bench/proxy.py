@@ -1,10 +1,11 @@
 #!/usr/bin/env python3
-"""Tries examples/nginx.conf in front of `upd serve`, on 127.0.0.1, with the ports and paths of a new folder.
+"""Tries examples/nginx.conf in front of `upd serve`, on 127.0.0.1, with the ports and paths of a new folder, and a second library beside.
 
     python3 bench/proxy.py [--executable FILE]
 
 User lyon tries to reach the paths of another site by many spellings; each must be refused, or act on lyon's own site. Then come the rows of what a strict
-client may trip over, and silent clients beside one that asks. It needs nginx and openssl. The exit status is 1 where an answer differs.
+client may trip over, and silent clients beside one that asks. The second library's configuration is made by the command that nginx.conf names.
+It needs nginx and openssl. The exit status is 1 where an answer differs.
 """
 
 import argparse
@@ -26,6 +27,7 @@ from wire import free_port  # noqa: E402
 
 RUN = b"*DECK A\nONE\n"
 NAME = "library.example"
+SECOND = "bash.example"
 LYON = "Authorization: Basic " + base64.b64encode(b"lyon:lyon").decode()
 # What lyon sends to reach another site, and the statuses that are right.
 OTHERS = [
@@ -51,10 +53,14 @@ def check(what, found, wanted):
     print(f"{'ok ' if found == wanted else 'BAD'} {what}: {found}{'' if found == wanted else f', and not {wanted}'}")
 
 
-def proxied(folder, port, desk):
-    """The configuration of the example with the ports and paths of the folder."""
-    text = (ROOT / "examples/nginx.conf").read_text()
-    for old, new in [("listen 443 ", f"listen 127.0.0.1:{port} "), ("/etc/ssl/certs/library.pem", f"{folder}/cert"), ("127.0.0.1:8080", f"127.0.0.1:{desk}"),
+def proxied(folder, port, desks):
+    """The configurations of the example, and of a second library as its comment makes it, with the ports and paths of the folder."""
+    (folder / "upd.conf").write_text((ROOT / "examples/nginx.conf").read_text())
+    copying = re.search(r"^#     (sed .*\\\n(?:#.*\\\n)*#.*> upd-bash.conf)$", (folder / "upd.conf").read_text(), re.M)[1]
+    subprocess.run(copying.replace("\n#", "\n"), shell=True, check=True, cwd=folder)
+    text = "\n".join((folder / name).read_text() for name in ("upd-bash.conf", "upd.conf"))
+    for old, new in [("listen 443 ", f"listen 127.0.0.1:{port} "), ("/etc/ssl/certs/library.pem", f"{folder}/cert"),
+                     ("http://127.0.0.1:8080", f"http://127.0.0.1:{desks[0]}"), ("http://127.0.0.1:8081", f"http://127.0.0.1:{desks[1]}"),
                      ("/etc/ssl/private/library.key", f"{folder}/key"), ("/etc/nginx/upd.users", f"{folder}/users")]:
         text = text.replace(old, new)
     kept = "".join(f"{kind}_temp_path {folder}/{kind}; " for kind in ("client_body", "proxy", "fastcgi", "uwsgi", "scgi"))
@@ -63,9 +69,9 @@ def proxied(folder, port, desk):
 
 
 class Proxy:
-    def __init__(self, folder, port, desk):
+    def __init__(self, folder, port, desks):
         self.port = port
-        (folder / "nginx.conf").write_text(proxied(folder, port, desk))
+        (folder / "nginx.conf").write_text(proxied(folder, port, desks))
         subprocess.run(["openssl", "req", "-x509", "-newkey", "rsa:2048", "-nodes", "-keyout", folder / "key", "-out", folder / "cert", "-days", "1", "-subj",
                         f"/CN={NAME}"], check=True, capture_output=True)
         for user in ("lyon", "paris"):
@@ -101,11 +107,15 @@ class Proxy:
         found = re.match(rb"HTTP/1.1 ([0-9]+)", head)
         return int(found[1]) if found else 0, head, body
 
-    def asked(self, method, target, body=b"", user="lyon", fields=(), host=(f"Host: {NAME}",), password="lyon"):
+    def asked(self, method, target, body=b"", user="lyon", fields=(), host=(f"Host: {NAME}",), password="lyon", name=NAME):
         known = f"Authorization: Basic {base64.b64encode(f'{user}:{password}'.encode()).decode()}" if user else "X: y"
         length = [] if any(field.startswith("Transfer") for field in fields) else [f"Content-Length: {len(body)}"]
         lines = [f"{method} {target} HTTP/1.1", *host, known, "Connection: close", *length, *fields]
-        return self.raw("\r\n".join(lines).encode() + b"\r\n\r\n" + body)
+        return self.raw("\r\n".join(lines).encode() + b"\r\n\r\n" + body, name)
+
+    def second(self, method, target, body=b"", **words):
+        """The answer of the second library's server."""
+        return self.asked(method, target, body, host=(f"Host: {SECOND}",), name=SECOND, **words)
 
 
 def try_others(proxy):
@@ -166,6 +176,21 @@ def try_slow(proxy):
         client.close()
 
 
+def try_two(proxy):
+    """The second library: its own numbers and names, and the same table of users. try_others has left run 1 of LYON in the first one."""
+    run, target = b"*DECK B\nTWO\n", "/sites/LYON/runs/1/quick"
+    check("run 1 of LYON to the second library", proxy.second("POST", target, run)[0], 200)
+    check("another run under that number", proxy.second("POST", target, RUN)[0], 409)
+    check("that run to the first library, which has another", proxy.asked("POST", target, run)[0], 409)
+    for what, asked, deck, other in [("first", proxy.asked, b"A", b"B"), ("second", proxy.second, b"B", b"A")]:
+        check(f"the deck of the {what} library", asked("GET", f"/decks/{deck.decode()}")[0], 200)
+        check(f"that of the other in the {what} library", asked("GET", f"/decks/{other.decode()}")[0], 404)
+    check("lyon: a run of PARIS to the second library", proxy.second("POST", "/sites/PARIS/runs/1/quick", run)[0], 403)
+    check("a run without a password to the second library", proxy.second("POST", target, run, user="")[0], 401)
+    check("a run to the second library from a page in a browser", proxy.second("POST", target, run, fields=["Origin: https://evil.example"])[0], 403)
+    check("a third name in the handshake", proxy.asked("GET", "/idents", name="zsh.example")[0], 0)
+
+
 def main():
     words = argparse.ArgumentParser(description=__doc__.splitlines()[0])
     add_executable(words)
@@ -174,23 +199,31 @@ def main():
     tools("nginx", "openssl")
     with tempfile.TemporaryDirectory() as folder:
         folder = Path(folder)
-        file = folder / "library.db"
-        subprocess.run([upd, "init", file], check=True)
-        server, desk = serve(upd, file, "127.0.0.1:0", folder / "server.log")
-        proxy = Proxy(folder, free_port(), desk)
+        files = [folder / "library.db", folder / "bash.db"]
+        for file in files:
+            subprocess.run([upd, "init", file], check=True)
+        served = [serve(upd, file, "127.0.0.1:0", file.with_suffix(".log")) for file in files]
+        servers = [server for server, _ in served]
+        proxy = Proxy(folder, free_port(), [desk for _, desk in served])
         try:
             try_others(proxy)
             try_table(proxy)
             try_slow(proxy)
-            server.terminate()
-            server.wait()
-            check("a question while upd is stopped", proxy.asked("GET", "/idents")[0], 502)
+            try_two(proxy)
+            for asked, other in [(proxy.asked, proxy.second), (proxy.second, proxy.asked)]:
+                server = servers.pop(0)
+                server.terminate()
+                server.wait()
+                check("a question while upd is stopped", asked("GET", "/idents")[0], 502)
+                check("and one to the other library", other("GET", "/idents")[0], 200 if servers else 502)
         finally:
             proxy.process.terminate()
-            server.kill()
+            for server in servers:
+                server.kill()
             proxy.process.wait()
-        sites = subprocess.run([upd, "sites", file], check=True, capture_output=True, text=True).stdout
-        check("the sites that have runs or marks", [line.split()[0] for line in sites.splitlines()], ["LYON"])
+        for file in files:
+            sites = subprocess.run([upd, "sites", file], check=True, capture_output=True, text=True).stdout
+            check(f"the sites of {file.name} that have runs or marks", [line.split()[0] for line in sites.splitlines()], ["LYON"])
     print(f"{bad} wrong")
     sys.exit(bad > 0)
 
