@@ -1,7 +1,7 @@
 #!/bin/sh
 # Tries the scripts of examples/ under each shell and each awk that is installed, of dash, bash, busybox, ksh93, mawk, gawk and original-awk.
 #
-#     bench/scripts.sh [EXECUTABLE]     crates/upd/out/upd, unless another one is named
+#     bench/scripts.sh [EXECUTABLE [TOOL..]]     crates/upd/out/upd, unless another one is named; a TOOL, as ksh93 or 'busybox awk', is one of these
 #
 # Under each: bring.sh and tree.sh bring in files with hostile names and bytes and write them back, byte for byte. Two sites put their changes into one
 # library by put.sh, on other lines and on the same one; one adds a file, removes one, changes 2,500 lines, and is killed while it sends. edit.sh edits a
@@ -13,6 +13,7 @@ set -u
 export LC_ALL=C
 root=$(cd "$(dirname -- "$0")/.." && pwd)
 upd=${1:-$root/crates/upd/out/upd}
+[ $# -eq 0 ] || shift
 case $upd in /*) ;; *) upd=$(pwd)/$upd ;; esac
 [ -x "$upd" ] || {
     echo "$upd isn't there: \`rt run\` in crates/upd makes it" >&2
@@ -320,12 +321,22 @@ try_tools() {
     echo "$tools: tried"
 }
 
+# Whether a tool is there, and one that was named, if any was.
+is_wanted() {
+    tool=$1
+    shift
+    command -v "${tool% *}" >"$work/found" || return
+    [ $# -gt 0 ] || return 0
+    for named; do [ "$named" != "$tool" ] || return 0; done
+    return 1
+}
+
 old_path=$PATH count=0
 for shell in dash bash 'busybox sh' ksh93; do
-    if command -v "${shell% *}" >"$work/found"; then try_tools "$(command -v "${shell% *}")${shell#"${shell% *}"}" "$(command -v mawk || command -v awk)"; fi
+    if is_wanted "$shell" "$@"; then try_tools "$(command -v "${shell% *}")${shell#"${shell% *}"}" "$(command -v mawk || command -v awk)"; fi
 done
 for awk in gawk 'busybox awk' original-awk; do
-    if command -v "${awk% *}" >"$work/found"; then try_tools "$(command -v dash || command -v sh)" "$(command -v "${awk% *}")${awk#"${awk% *}"}"; fi
+    if is_wanted "$awk" "$@"; then try_tools "$(command -v dash || command -v sh)" "$(command -v "${awk% *}")${awk#"${awk% *}"}"; fi
 done
 echo "$count shells and awks tried, $wrong differences"
 [ "$wrong" -eq 0 ]
