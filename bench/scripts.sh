@@ -4,11 +4,11 @@
 #     bench/scripts.sh [EXECUTABLE [TOOL..]]     crates/upd/out/upd, unless another one is named; a TOOL, as ksh93 or 'busybox awk', is one of these
 #
 # Under each: bring.sh and tree.sh bring in files with hostile names and bytes and write them back, byte for byte. Two sites put their changes into one
-# library by put.sh, on other lines and on the same one; one adds a file, removes one, changes 2,500 lines, and is killed while it sends. edit.sh edits a
-# deck, a line that another site has changed, and files of a tree. An edit of several runs meets what came before its first run, between two of them and
-# after one that got no answer; and idents are purged, or come again, that an edit has seen. Decks go out of use and
-# are purged. site.sh sends a run, and once finds its folder in use. What comes out must be the tree that was put in, and LIST the same under all. Exit
-# status: 0 all is as it should be, 1 something is not, 3 the executable is not there.
+# library by put.sh, on other lines, on the same one and at the same time; one adds a file, removes one, changes 2,500 lines, and is killed while it sends.
+# edit.sh edits a deck, a line that another site has changed, and files of a tree. An edit of several runs meets what came before its first run, between two
+# of them and after one that got no answer; and idents are purged, or come again, that an edit has seen. Decks go out of use and are purged. site.sh sends a
+# run, and once finds its folder in use. What comes out must be the tree that was put in, and LIST the same under all. Exit status: 0 all is as it should be,
+# 1 something is not, 3 the executable is not there.
 set -u
 export LC_ALL=C
 root=$(cd "$(dirname -- "$0")/.." && pwd)
@@ -67,6 +67,7 @@ make_source() {
     chmod 755 source/run.sh
     : >source/empty.h
     printf '\n\n  \n' >source/blank.h
+    chmod 664 source/blank.h
     printf 'a\000\351\n' >source/nul.c
     printf 'R"(\351)"\n' >source/raw.c
     printf 'L"\351"\n' >source/wide.c
@@ -91,10 +92,18 @@ try_trees() {
     expect 0 script tree --list LIST.LYON l.db lyon
 }
 
+# The rights and names of the files of a tree.
+rights() {
+    (cd "$1" && ls -lR | awk '/^-/ { rights = $1; sub(/^.*[0-9]:[0-9][0-9] /, ""); print rights, $0 }')
+}
+
 same_tree() {
     rm -rf now
     expect 0 script tree l.db now <"LIST.$1"
     must diff -r now "$2"
+    rights now >rights_now
+    rights "$2" >rights_then
+    must cmp rights_then rights_now
 }
 
 try_puts() {
@@ -148,6 +157,40 @@ try_edits() {
 oslo() {
     oslo_number=$((oslo_number + 1))
     printf "$@" >run && "$upd" run p.db OSLO "$oslo_number" quick <run >reply || wrong=$((wrong + 1))
+}
+
+# Puts three changes of a site, while another site does so too. What is in use is tried again.
+put_beside() {
+    for round in 1 2 3; do
+        sed "$((round * 10 + $2))s/.*/$1 $round/" "beside/$1/a.txt" >"new.$1" && cat "new.$1" >"beside/$1/a.txt"
+        left=99
+        while
+            script put --yes beside.db "$1" "beside/LIST.$1" "beside/$1" </dev/null >"out.$1" 2>"err.$1"
+            [ $? -eq 3 ] && [ "$left" -gt 0 ]
+        do
+            left=$((left - 1))
+            sleep 1
+        done
+    done
+}
+
+# Two sites that put at the same time: each change is in the library and in both trees.
+try_beside() {
+    mkdir beside
+    expect 0 "$upd" init beside.db
+    awk 'BEGIN { print "*DECK A"; for (i = 1; i <= 40; i++) print "a" i }' >run
+    expect 0 "$upd" run beside.db PARIS 1 quick <run
+    for site in ROME LYON; do
+        printf 'deck A\npath a.txt\n' >"beside/LIST.$site"
+        expect 0 script tree --list "beside/LIST.$site" beside.db "beside/$site"
+    done
+    put_beside ROME 1 &
+    put_beside LYON 5
+    wait
+    for site in ROME LYON; do expect 0 script put --yes beside.db "$site" "beside/LIST.$site" "beside/$site"; done
+    must diff -r beside/ROME beside/LYON
+    must [ "$(grep -c -e '^ROME [123]$' -e '^LYON [123]$' beside/ROME/a.txt)" -eq 6 ]
+    must [ "$("$upd" text beside.db A | sed 1d | cksum)" = "$(cksum <beside/ROME/a.txt)" ]
 }
 
 # A library with a deck of 1,900 and a set of 300 lines, a tree of it, and in that an edit of all but 100 lines, which needs two runs.
@@ -254,12 +297,14 @@ try_decks() {
     expect 1 answering 'small//a.c\n' script bring --c --list LIST.P p.db LYON 50
     expect 0 "$upd" spool p.db <spool
     expect 0 script tree --list LIST.P p.db parts
-    printf 'a\nb\nc\n' >parts/small/a.c && chmod 755 parts/small/e.c && cp -Rp parts changed && cp LIST.P LIST.OLD
-    expect 0 script put --yes p.db LYON LIST.P parts
+    printf 'a\nb\nc\n' >parts/small/a.c && chmod 755 parts/small/e.c && chmod 640 parts/small/d.c && cp -Rp parts changed && cp LIST.P LIST.OLD
+    (umask 077 && script put --yes p.db LYON LIST.P parts >out 2>err) || wrong=$((wrong + 1))
     must diff -r changed parts
+    must [ "$(grep -c '^mode' LIST.P)" -eq 2 ]
     expect 0 script tree p.db now <LIST.P
     must diff -r changed now
     must [ -x now/small/e.c ]
+    must [ "$(ls -l now/small/d.c | cut -c 1-10)" = -rw-r----- ]
     oslo '*IDENT Y\n*YANKDECK B\n*INSERT D.2\nby OSLO\n*INSERT E.2\nby OSLO\n'
     oslo '*PURDECK C\n'
     rm parts/small/d.c && echo more >>parts/small/a.c
@@ -311,6 +356,7 @@ try_tools() {
     try_trees
     try_puts
     try_edits
+    try_beside
     try_parts
     try_purges
     try_decks

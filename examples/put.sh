@@ -81,14 +81,16 @@ trap 'rm -rf "$work"' EXIT
 trap 'exit 3' HUP INT TERM
 export UPD="$upd"
 
-# The decks of LIST: name, path, SINCE and its serial, the sums of lines and file, and how the file was made to fit, one a line.
+# The decks of LIST: name, path, SINCE and its serial, the sums of lines and file, rights, and how the file was made to fit, one a line.
 list_decks() {
     awk '
-        function end() { if (deck != "") print deck, path, (since == "" ? "-" : since), (serial == "" ? "-" : serial), (sum == "" ? "- -" : sum), fit }
-        $1 == "deck" { end(); deck = $2; path = since = serial = sum = fit = "" }
+        function known(word, other) { return word == "" ? other : word }
+        function end() { if (deck != "") print deck, path, known(since, "-"), known(serial, "-"), known(sum, "- -"), known(rights, 644), fit }
+        $1 == "deck" { end(); deck = $2; path = since = serial = sum = rights = fit = "" }
         $1 == "path" { path = path $2 }
         $1 == "since" { since = $2; serial = $3 }
         $1 == "sum" { sum = $2 ":" $3 " " $4 ":" $5 }
+        $1 == "mode" { rights = $2 }
         $1 == "fit" { fit = "--c" }
         END { end() }' "$list"
 }
@@ -241,7 +243,7 @@ note_run() {
         { section "$deck" | sed '/^fit /d' && if [ -s "$item.fit" ]; then echo 'fit c'; fi; } >"$work/section" && "$upd" list -- "$work/after" "$deck" >"$work/listing" || exit 3
         sed -n '1!s/^A [^ ]* //p' "$work/listing" | sed 1d >"$work/active"
         diff -U 0 "$work/active" "$item.cards" >"$work/hunks"
-        new_section "$deck" "$now" "$(cat "$1/sets")" "$(mode_of "$item.file")" \
+        new_section "$deck" "$now" "$(cat "$1/sets")" "$(cat "$item.mode")" \
             "$work/section" "$work/listing" "$work/hunks" "$item.notes" >"$work/new" || exit 3
         rm -rf "$work/out"
         sh "$tree" "$work/after" "$work/out" <"$work/new" || exit 3
@@ -374,9 +376,10 @@ keep_noted() {
     run=$kept
 }
 
-# Whether both files are programs, or neither is.
-are_alike() {
-    if [ -x "$1" ]; then [ -x "$2" ]; else [ ! -x "$2" ]; fi
+# Whether a file has the rights that LIST notes, or those that the umask left of them.
+has_noted_rights() {
+    rights=$(mode_of "$folder/$path")
+    [ "$rights" = "$noted" ] || [ "$rights" = "$(mode_of "$work/tree/$path")" ]
 }
 
 # A file that is gone. What others have done to its deck since has to be seen before that goes out of use.
@@ -396,7 +399,8 @@ take_out() {
 keep_deck() {
     deck_count=$((deck_count + 1))
     item=$run/$deck_count
-    cp "$folder/$path" "$item.file" && cp "$work/cards" "$item.cards" && cp "$work/notes" "$item.notes" \
+    if has_noted_rights; then rights=$noted; fi
+    cp "$folder/$path" "$item.file" && cp "$work/cards" "$item.cards" && cp "$work/notes" "$item.notes" && printf '%s\n' "$rights" >"$item.mode" \
         && printf '%s' "${c:-$fit}" >"$item.fit" && printf '%s\n' "$code" >"$item.path" && printf '%s\n' "$deck" >"$item.deck" || exit 3
 }
 
@@ -413,7 +417,7 @@ if [ $# -gt 0 ]; then
     number=$((number + $(grep -c "^RUN $site [0-9]* quick [0-9]*\$" "$work/spool")))
     sed -n -e 's/^deck //p' -e 's/^part \([^ ]*\) .*/0 \1/p' "$put/list" | sed 's/.*/0 & set held/' >>"$work/held"
 fi
-while read -r deck code since serial sum file_sum fit <&3; do
+while read -r deck code since serial sum file_sum noted fit <&3; do
     path=$(printf '%b' "$code")
     if [ -e "$folder/$path.upd" ]; then
         say "$path.upd is there: put what it has into $path, and remove it"
@@ -431,10 +435,10 @@ while read -r deck code since serial sum file_sum fit <&3; do
     elif [ ! -e "$folder/$path" ]; then
         take_out
         continue
-    elif cmp -s "$folder/$path" "$work/tree/$path" && are_alike "$folder/$path" "$work/tree/$path"; then
+    elif cmp -s "$folder/$path" "$work/tree/$path" && has_noted_rights; then
         printf '%s\n' "$deck" >>"$work/same"
         continue
-    elif [ "$(sum_of <"$folder/$path")" = "$file_sum" ] && are_alike "$folder/$path" "$work/tree/$path"; then
+    elif [ "$(sum_of <"$folder/$path")" = "$file_sum" ] && has_noted_rights; then
         deck_count=$((deck_count + 1))
         cp "$folder/$path" "$work/was/$deck_count" && printf '%s %s %s\n' "$deck" "$code" "$deck_count" >>"$work/others" || exit 3
         continue
