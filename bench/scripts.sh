@@ -65,6 +65,7 @@ make_source() {
     printf 'caf\351 "\\351"\n\303\251 \\\\ last' >"source/a b/caf$(printf '\351').c"
     awk 'BEGIN { for (i = 0; i < 300; i++) s = s (i % 7 ? "?" : "\\101"); print s; print "#!x" s }' >source/run.sh
     chmod 755 source/run.sh
+    cp source/run.sh 'source/[r]un.sh' && chmod 644 'source/[r]un.sh'
     : >source/empty.h
     printf '\n\n  \n' >source/blank.h
     chmod 664 source/blank.h
@@ -148,7 +149,7 @@ try_edits() {
     printf '#!/bin/sh\nprintf "*IDENT O1\\n*DELETE A.2\\nOSLO\\n" | "$UPD" run l.db OSLO 1 quick\nsed -i s/ONE/PARIS/ "$1"\n' >editor && chmod +x editor
     expect 1 env EDITOR=./editor sh -c 'printf "yes\nno\n" | sh "$0" l.db PARIS A' "$root/examples/edit.sh"
     must grep -q '^I A.2 *O1 ' err
-    expect 0 env EDITOR="sed -i -e '\$s/\$/ */'" sh -c 'echo yes | sh "$0" --list LIST.LYON l.db LYON source/run.sh' "$root/examples/edit.sh"
+    expect 0 env EDITOR="sed -i -e '\$s/\$/ */'" sh -c 'echo yes | sh "$0" --list LIST.LYON l.db LYON source/run.sh "source/[r]un.sh"' "$root/examples/edit.sh"
     expect 0 script put --yes l.db LYON LIST.LYON lyon
     same_tree LYON lyon
 }

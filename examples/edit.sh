@@ -241,9 +241,11 @@ edit_files() {
     export UPD="$upd"
     sh "$tree" --list "$work/list" "$library" "$work/tree" && cp -Rp "$work/tree" "$work/taken" || exit $?
     set --
+    set -f # a path is no pattern
     for path in $(awk '$1 == "deck" && path != "" { print path; path = "" } $1 == "path" { path = path $2 } END { print path }' "$work/list"); do
         set -- "$@" "$work/tree/$(printf '%b' "$path")"
     done
+    set +f
     while :; do
         open_editor "$@"
         ask_message
