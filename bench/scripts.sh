@@ -4,11 +4,11 @@
 #     bench/scripts.sh [EXECUTABLE [TOOL..]]     crates/upd/out/upd, unless another one is named; a TOOL, as ksh93 or 'busybox awk', is one of these
 #
 # Under each: bring.sh and tree.sh bring in files with hostile names and bytes and write them back, byte for byte. Two sites put their changes into one
-# library by put.sh, on other lines, on the same one and at the same time; one adds a file, removes one, changes 2,500 lines, and is killed while it sends.
-# edit.sh edits a deck, a line that another site has changed, and files of a tree. An edit of several runs meets what came before its first run, between two
-# of them and after one that got no answer; and idents are purged, or come again, that an edit has seen. Decks go out of use and are purged. site.sh sends a
-# run, and once finds its folder in use. What comes out must be the tree that was put in, and LIST the same under all. Exit status: 0 all is as it should be,
-# 1 something is not, 3 the executable is not there.
+# library by put.sh, on other lines, on the same one and at the same time, and one twice at once; one adds a file, removes one, changes 2,500 lines, and is
+# killed while it sends. edit.sh edits a deck, a line that another site has changed, and files of a tree. An edit of several runs meets what came before its
+# first run, between two of them and after one that got no answer; and idents are purged, or come again, that an edit has seen. Decks go out of use and are
+# purged. site.sh sends a run, and once finds its folder in use. What comes out must be the tree that was put in, and LIST the same under all. Exit status: 0
+# all is as it should be, 1 something is not, 3 the executable is not there.
 set -u
 export LC_ALL=C
 root=$(cd "$(dirname -- "$0")/.." && pwd)
@@ -192,6 +192,17 @@ try_beside() {
     must diff -r beside/ROME beside/LYON
     must [ "$(grep -c -e '^ROME [123]$' -e '^LYON [123]$' beside/ROME/a.txt)" -eq 6 ]
     must [ "$("$upd" text beside.db A | sed 1d | cksum)" = "$(cksum <beside/ROME/a.txt)" ]
+    # shellcheck disable=SC2016 # these words are of the script
+    printf '#!/bin/sh\n[ "$1" != run-at ] || { : >here; until [ -e ended ]; do sleep 1; done; }\nexec "%s" "$@"\n' "$upd" >waiting && chmod +x waiting
+    echo more >>beside/ROME/a.txt
+    UPD=$work/$count/waiting script put --yes beside.db ROME beside/LIST.ROME beside/ROME </dev/null >out.ROME 2>err.ROME &
+    left=99
+    until [ -e here ] || [ "$left" -le 0 ]; do left=$((left - 1)) && sleep 1; done
+    expect 3 script put --yes beside.db ROME beside/LIST.ROME beside/ROME
+    must grep -q 'another put.sh is at work' err
+    : >ended && wait
+    expect 0 script tree beside.db beside/now <beside/LIST.ROME
+    must diff -r beside/ROME beside/now
 }
 
 # A library with a deck of 1,900 and a set of 300 lines, a tree of it, and in that an edit of all but 100 lines, which needs two runs.

@@ -44,6 +44,24 @@ script() {
     exit 3
 }
 
+# Waits some seconds until nobody else works with LIST. The lock of LIST is LIST.lock; what is killed leaves it free.
+lock_list() {
+    command -v flock >/dev/null || {
+        say "flock is not on the path"
+        exit 3
+    }
+    (: >>"$list.lock") && exec 9>"$list.lock" || exit 3
+    left=3
+    until flock -n 9 9>&9; do # some shells close it else
+        left=$((left - 1))
+        [ "$left" -gt 0 ] || {
+            say "another put.sh is at work with $list"
+            exit 3
+        }
+        sleep 1
+    done
+}
+
 check_words() {
     case $site in
     '' | *[!A-Z0-9]* | ?????????*) usage ;;

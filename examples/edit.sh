@@ -249,9 +249,11 @@ edit_files() {
     while :; do
         open_editor "$@"
         ask_message
+        lock_list
         sh "$put" --mode "$mode" -m "$message" -- "$library" "$site" "$work/list" "$work/tree"
         status=$?
         [ "$status" -ne 0 ] || break
+        exec 9>&- # nobody waits for an editor
         [ "$status" -eq 1 ] || exit "$status"
         agreed "edit again? edit, or no: "
         [ $? -eq 2 ] || exit 1

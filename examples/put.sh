@@ -22,9 +22,10 @@
 #     --mode MODE   the mode of the runs: full, normal, or quick, which it is else
 #     -m MESSAGE    what the runs are for, at most 77 bytes: their first line, as a comment. Asked for at a terminal.
 #
-# While it sends, LIST.put has the runs. After a kill, or where no answer came, start it again: it sends the same runs first. Where a
-# file needs several runs, and only the first are accepted, LIST.put stays: start it again to send the rest, or yank their sets, which
-# it names, and then remove LIST.put.
+# One put.sh at a time works with LIST, for which LIST.lock is there, by flock. While it sends, LIST.put has the runs. After a
+# kill, or where no answer came, start it again: it sends the same runs first. Where a file needs several runs, and only the
+# first are accepted, LIST.put stays: start it again to send the rest, or yank their sets, which it names, and then remove
+# LIST.put.
 #
 # Exit status:
 #   0  all runs are accepted, or nothing was changed
@@ -307,16 +308,14 @@ send_all() {
     site=$asked_site mode=$asked_mode
 }
 
+lock_list
 if [ -e "$put/ready" ]; then
     say "the runs of $put are sent again"
     send_all
 fi
 
-# One put.sh at a time has LIST.put.
-mkdir -- "$put" || {
-    say "another put.sh is at work with $list, or was killed before it sent: then remove $put"
-    exit 3
-}
+# What is there else was killed before it sent.
+rm -rf "$put" && mkdir -- "$put" || exit 3
 trap 'rm -rf "$work"; [ -e "$put/ready" ] || rm -rf "$put"' EXIT
 ask_message
 
