@@ -347,6 +347,26 @@ try_decks() {
     must [ "$("$upd" text p.db E | grep -c last)" -eq 1 ]
 }
 
+# A yank takes the end of a line that was cut back, and a yank of that brings it again.
+try_yanks() {
+    mkdir yanks && awk 'BEGIN { for (i = 0; i < 300; i++) s = s "x"; print "a"; print s " one"; print "b" }' >yanks/a.c
+    expect 0 "$upd" init yanks.db
+    expect 0 answering 'yanks/a.c\n' script bring --c --list LIST.Y yanks.db LYON 1 && cp out spool
+    expect 0 "$upd" spool yanks.db <spool
+    expect 0 script tree --list LIST.Y yanks.db yanked
+    sed 's/one$/two/' yanks/a.c >yanked/yanks/a.c
+    expect 0 script put --yes yanks.db LYON LIST.Y yanked
+    yanked=LYON2
+    for folder in . yanked; do
+        printf '*IDENT BY%s\n*YANK %s\n' "$yanked" "$yanked" >run
+        expect 0 "$upd" run yanks.db "OSLO${#yanked}" 1 quick <run
+        yanked=BY$yanked
+        rm -rf now
+        expect 0 script tree yanks.db now <LIST.Y
+        must cmp "$folder/yanks/a.c" now/yanks/a.c
+    done
+}
+
 try_site() {
     mkdir -p site/outbox && printf '*DECK S\nONE\n' >site/outbox/a.quick
     expect 0 script site site BERN l.db
@@ -372,6 +392,7 @@ try_tools() {
     try_parts
     try_purges
     try_decks
+    try_yanks
     try_site
     PATH=$old_path
     [ -e "$work/LIST" ] || cp LIST.LYON "$work/LIST"

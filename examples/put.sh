@@ -146,6 +146,9 @@ new_section() {
             if (length(line_of[kind]) + length(item) > 79) { print line_of[kind]; line_of[kind] = "" }
             line_of[kind] = (line_of[kind] == "" ? kind : line_of[kind]) " " item
         }
+        function put_join(number, after) {
+            if (!(number in is_placed && after in is_placed)) put_note("join", number ":" after)
+        }
         function number_of(at) {
             return owner[at] == deck ? card[at] - 1 : owner[at] in start ? start[owner[at]] + card[at] - 1 : 0
         }
@@ -187,8 +190,9 @@ new_section() {
                 size = split(old[i], item, " ")
                 for (n = 2; n <= size; n++) {
                     split(item[n], a, ":")
-                    if (item[1] != "cut") { if (!(a[1] in is_placed)) put_note(item[1], item[n]); continue }
-                    for (k = a[1]; k < a[1] + a[2] - 1; k++) if (!(k in is_placed)) put_note("join", k ":" k + 1)
+                    if (item[1] == "join") put_join(a[1], a[2])
+                    else if (item[1] != "cut") { if (!(a[1] in is_placed)) put_note(item[1], item[n]) }
+                    else for (k = a[1]; k < a[1] + a[2] - 1; k++) put_join(k, k + 1)
                 }
             }
             for (i = 1; i <= news; i++) {

@@ -31,7 +31,7 @@
 #     feed N:COLUMN ..     a form feed, where the card has a blank
 #     indent N ..          lines that were indented by a blank
 #     cut N:COUNT ..       a line that was cut into COUNT cards
-#     join N:M ..          the card N ends with a cut, and M goes on
+#     join N:M ..          the card N ends with a cut, and M goes on, or another M where that is the next one
 #     open N               the last line, where it had no line end
 #     bytes OOO ..         octal codes: the escape \OOO is that byte in each line, also in those that came later
 #     byte N:COLUMN ..     another byte, where the card has its escape
@@ -82,8 +82,8 @@ restore() {
                 split($i, item, ":")
                 if ($1 == "feed") feeds[item[1]] = feeds[item[1]] " " item[2]
                 else if ($1 == "byte") note["byte", item[1], item[2]] = 1
-                else if ($1 == "cut") for (n = item[1]; n < item[1] + item[2] - 1; n++) next_of[n] = n + 1
-                else if ($1 == "join") next_of[item[1]] = item[2]
+                else if ($1 == "cut") for (n = item[1]; n < item[1] + item[2] - 1; n++) is_cut[n] = is_join[n, n + 1] = 1
+                else if ($1 == "join") is_cut[item[1]] = is_join[item[1], item[2]] = 1
                 else note[$1, item[1]] = item[2] == "" ? 1 : item[2]
             }
             next
@@ -105,7 +105,7 @@ restore() {
         }
         # the last card of the line that begins with a card, or 0 where one of its cards is another
         function last_of(at) {
-            for (; line[at] in next_of; at++) if (at == count || line[at + 1] != next_of[line[at]] || text[at] !~ /\\$/) return 0
+            for (; line[at] in is_cut; at++) if (at == count || !((line[at], line[at + 1]) in is_join) || text[at] !~ /\\$/) return 0
             return at
         }
         END {
