@@ -24,7 +24,7 @@ for crate; do
         /^test .* \.\.\. ok/ { end(); passed++; print; fflush(); next }
         /^test result: / { end(); ended = 1; next }
         held != "" { held = held "\n" $0; next }
-        !/^(tests: |run=)/ { print; fflush() }
+        !/^(tests: |run=ended)/ { print; fflush() }
         END { end(); print passed + 0, failed + 0, slow + 0, !ended >> counts }'
     echo "$crate: $(tail -n 1 "$counts" | cut -d ' ' -f 1) passed in $(($(date +%s) - began)) seconds"
 done
