@@ -1,5 +1,6 @@
 use Rattle.upd_keep.proofs.Common.{length}
-use Rattle.std.proofs.Common.{◌+◌, ◌≤◌, AllByRecursion}
+use Rattle.std.proofs.Common.{◌+◌, ◌≤◌}
+use Rattle.std.specs.List.{AllByRecursion}
 use Rattle.upd_keep.proofs.page_sums.wrong_pages.Given as goal
 
 abbrev pub invariant-loop-rest : goal.invariant-loop-rest
