@@ -46,7 +46,8 @@ A run is a text of lines that adds decks and corrects cards; it acts whole or no
 Begin with `upd init FILE`. `upd COMMAND --help` explains a command with an example; `man upd` lists
 the lines of a run and the faults; docs/tour.md in the repository shows a first session.
 
-Scripts: upd-bring adds files of source, upd-tree writes them back, upd-edit edits decks in an editor.";
+Scripts: upd-bring adds files of source, upd-tree writes them back, upd-put brings in what was changed
+there, upd-edit opens decks in an editor.";
 
 /// The program with its commands, one level deep.
 pub(crate) fn program<'a>(alloc: Global) -> Result<Command<'a>, AllocError>

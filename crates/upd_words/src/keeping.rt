@@ -204,8 +204,8 @@ const BACKUP: Text = Text {
     about: "Makes a whole copy of a library's file",
     more: "\
 Copies the library in FILE, with what is still in the log beside it, to the new file COPY: a library by
-itself. COPY must not exist, nor COPY-wal or COPY.part. The library stays, and no other command may
-have it open. Nothing is read from standard input or written to standard output.
+itself. COPY must not exist, nor COPY-wal, COPY-journal or COPY.part. The library stays, and no other
+command may have it open. Nothing is read from standard input or written to standard output.
 
 Exit status: 0 done; 2 the command line can't be read; 3 COPY exists or can't be made, out of memory,
 or the library failed. The fault is one line on standard error.
@@ -219,8 +219,8 @@ const COMPACT: Text = Text {
     more: "\
 Reads the library in FILE, and makes one with the same rows in the new file COPY, as `upd init` makes
 it: its pages have sums, so that a changed byte is noticed. The rows of both are compared first. COPY
-must not exist, nor COPY-wal or COPY.part. The library stays, and no other command may have it open.
-Nothing is read from standard input or written to standard output.
+must not exist, nor COPY-wal, COPY-journal or COPY.part. The library stays, and no other command may
+have it open. Nothing is read from standard input or written to standard output.
 
 Exit status: 0 done; 2 the command line can't be read; 3 COPY exists or can't be made, out of memory,
 or the library failed. The fault is one line on standard error.
