@@ -20,6 +20,8 @@ mod failed_commits;
 #[cfg(test)]
 mod fused_files;
 #[cfg(test)]
+mod late_decks;
+#[cfg(test)]
 mod list_rows;
 #[cfg(test)]
 mod migrated;

@@ -80,11 +80,18 @@ const SITES: [&str; 4] = ["BASE", "LYON", "PARIS", "EIGHTLET"];
 
 const NUMBERS: [u64; 8] = [1, 2, 3, 4, 8, 16, 24, 999_999_999];
 
+fn add_stored<S: RowStore>(lines: &mut Vec<String>, store: &mut S) -> Result<(), Fail> {
+    let found = store.stored_runs(*lines.allocator())?;
+    add_rows(lines, &found.runs)?;
+    add_rows(lines, &found.marks)
+}
+
 /// What a store answers of all rows: sorted lines.
 fn rows_of<S: RowStore>(alloc: Global, store: &mut S) -> Result<String, Fail> {
     let mut lines = Vec::new(alloc);
     add_library(&mut lines, store)?;
     add_statuses(&mut lines, store)?;
+    add_stored(&mut lines, store)?;
     for site in SITES {
         add_site(&mut lines, store, site, &NUMBERS)?;
     }
@@ -144,18 +151,30 @@ fn late_deck(alloc: Global) -> Result<String, Fail> {
 }
 
 /// Questions of that deck.
-const LATE: &[Ask<'static>] = &[
+pub const LATE: &[Ask<'static>] = &[
     Ask::Card("LATE.2"),
     Ask::Card("LATE.1003"),
     Ask::Card("NEW.1"),
+    Ask::Deck("LATE"),
+    Ask::Idents,
     Ask::Yanks,
+    Ask::Compile,
 ];
 
 const TAKEN: &str = "CARD NEW.1\nDECK LATE\nTEXT NEW\nSTATUS inactive\nENTRY NEW on taken\n";
 
-/// Many sets, a deck after them, and a yank in it.
-fn late_session(alloc: Global) -> Result<Session<Tables>, Fail> {
-    let mut session = fresh_session::<Tables>(alloc)?;
+/// A yank of each of those sets, and one in the deck.
+fn yanks(alloc: Global) -> Result<String, Fail> {
+    let mut run = String::from_str(alloc, "*IDENT Y\n*SELYANK LATE.NEW\n")?;
+    for number in 0..1001_u32 {
+        write!(run, "*YANK N{number}\n")?;
+    }
+    Ok(run)
+}
+
+/// Many sets, a deck after them, and many yanks.
+pub fn late_session<S: Fresh>(alloc: Global) -> Result<Session<S>, Fail> {
+    let mut session = fresh_session::<S>(alloc)?;
     session.ask(Ask::Lyon(1, "quick", &sets(alloc)?))?;
     let text = late_deck(alloc)?;
     session.ask(Ask::Run(Sent {
@@ -165,7 +184,7 @@ fn late_session(alloc: Global) -> Result<Session<Tables>, Fail> {
         text: &text,
     }))?;
     session.ask(Ask::Lyon(2, "full", "*IDENT NEW\n*INSERT LATE.2\nNEW\n"))?;
-    session.ask(Ask::Lyon(3, "full", "*IDENT Y\n*SELYANK LATE.NEW\n"))?;
+    session.ask(Ask::Lyon(3, "full", &yanks(alloc)?))?;
     session.says(Ask::Card("NEW.1"), TAKEN)?;
     Ok(session)
 }
@@ -184,7 +203,7 @@ fn a_late_deck_is_stored_and_read(rt: HostRuntime) -> Result<(), Fail> {
         desk,
         reference,
         alloc,
-    } = late_session(rt.alloc())?;
+    } = late_session::<Tables>(rt.alloc())?;
     let tables = is_stored(desk.close(), &reference)?;
     is_answered_below(Session::over(tables, reference), LATE)
 }
