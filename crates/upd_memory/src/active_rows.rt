@@ -7,7 +7,7 @@ ghost use Rattle.std.specs.Ordering.{nat_cmp};
 ghost use Rattle.upd_core.specs.declared.ident.Ident.{Ident};
 ghost use Rattle.upd_row_store.specs.Activating.{with_active};
 ghost use Rattle.upd_row_store.specs.Assembling.{AreAgesOf};
-ghost use Rattle.upd_memory.specs.ActiveRows.{AreInOrder, rise_from, shown_deck, shown_decks, with_rows};
+ghost use Rattle.upd_memory.specs.ActiveRows.{AreInOrder, IsAgeOf, rise_from, shown_deck, shown_decks, with_rows};
 ghost use Rattle.upd_memory.specs.Mirrored.{state_row};
 
 use crate::status_lookup::Statuses;
@@ -44,19 +44,44 @@ pub(crate) fn all_by_place(decks: &BTreeMap<Serial, Vec<CardRow>>) -> bool
     true
 }
 
+/// The name of an ident that was looked up, and its serial: cards of an ident mostly come side by side.
+#[derive(Drop)]
+struct Known {
+    name: Name,
+    age: Serial,
+}
+
+/// The serial of the ident of a name, as `age_of` finds it, unless it is known.
+fn known_age(ages: &BTreeMap<Name, Serial>, known: &mut Known, name: &Name) -> Serial
+    requires { IsAgeOf ages.now known.old.name known.old.age }
+    ensures age { IsAgeOf ages.now name.now result }
+    ensures known { IsAgeOf ages.now known.new.name known.new.age }
+{
+    if known.name == *name {
+        return known.age;
+    }
+    let age = age_of(ages, name);
+    *known = Known { name: *name, age };
+    age
+}
+
 /// Adds the card of a row to its deck, if it is active.
 fn add_row(
     deck: &mut ActiveDeck,
     row: &CardRow,
     ages: &BTreeMap<Name, Serial>,
+    known: &mut Known,
     statuses: &mut Statuses,
 ) -> Result<(), AllocError>
+    requires { IsAgeOf ages.now known.old.name known.old.age }
+    ensures known { IsAgeOf ages.now known.new.name known.new.age }
     ensures pairs { statuses.new.pairs ≡ statuses.old.pairs }
     ensures deck { OnOk result ((idents : List Ident) → AreAgesOf idents ages.now → AreInOrder statuses.old.pairs.now
         → deck.new ≡ with_active idents (map state_row statuses.old.pairs.now) row.now deck.old) }
 {
     if statuses.is_active(&row.card) {
-        deck.push(age_of(ages, &row.card.name), row.card.number, &row.body)?;
+        let age = known_age(ages, known, &row.card.name);
+        deck.push(age, row.card.number, &row.body)?;
     }
     Ok(())
 }
@@ -74,8 +99,13 @@ fn active_deck(
         → deck ≡ with_rows idents (map state_row statuses.old.pairs.now) (record { ident = age; cards = [] }) rows.now) }
 {
     let mut deck = ActiveDeck::new(alloc, age);
+    let name = Name::none();
+    let mut known = Known {
+        name,
+        age: age_of(ages, &name),
+    };
     for row in rows {
-        add_row(&mut deck, row, ages, statuses)?;
+        add_row(&mut deck, row, ages, &mut known, statuses)?;
     }
     Ok(deck)
 }

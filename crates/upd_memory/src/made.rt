@@ -47,22 +47,22 @@ impl Mirror {
         Mirror::without_cards(alloc, Vec::new(alloc), Vec::new(alloc), Vec::new(alloc))
     }
 
-    fn add_cards(&mut self, cards: &[CardRow]) -> Option<()>
+    fn add_cards(&mut self, cards: Vec<CardRow>) -> Option<()>
         ensures { OnSome result ((rows : Rows) → Agrees self.old rows
-            → Agrees self.new (record rows { cards = rows.cards ++ cards.now })) }
+            → Agrees self.new (record rows { cards = rows.cards ++ cards.items })) }
     {
         for card in cards {
-            self.add_card(card.copy().ok()?)?;
+            self.add_card(card)?;
         }
         Some(())
     }
 
-    fn add_entries(&mut self, alloc: Global, entries: &[EntryRow]) -> Option<()>
+    fn add_entries(&mut self, alloc: Global, entries: Vec<EntryRow>) -> Option<()>
         ensures { OnSome result ((rows : Rows) → Agrees self.old rows
-            → Agrees self.new (record rows { entries = rows.entries ++ entries.now })) }
+            → Agrees self.new (record rows { entries = rows.entries ++ entries.items })) }
     {
         for entry in entries {
-            self.add_entry(alloc, *entry)?;
+            self.add_entry(alloc, entry)?;
         }
         Some(())
     }
@@ -112,8 +112,8 @@ fn of_rows(alloc: Global, rows: LibraryRows, states: States) -> Option<Mirror>
     let States { states, counts } = states;
     let cards = by_place(cards);
     let mut mirror = Mirror::without_cards(alloc, idents, targets, counts);
-    mirror.add_cards(&cards)?;
-    mirror.add_entries(alloc, &entries)?;
+    mirror.add_cards(cards)?;
+    mirror.add_entries(alloc, entries)?;
     mirror.add_states(&states)?;
     Some(mirror)
 }

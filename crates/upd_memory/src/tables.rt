@@ -168,7 +168,7 @@ pub(crate) fn status_of(statuses: &BTreeMap<CardRef, bool>, card: &CardRef) -> O
 
 // ---- entries, by card
 
-/// Puts an entry as the only one of its card.
+/// Puts an entry as the only one of its card, without room for more: most cards have one.
 fn put_entry(
     alloc: Global,
     entries: &mut BTreeMap<CardRef, Vec<EntryRow>>,
@@ -177,8 +177,7 @@ fn put_entry(
     ensures { OnOk result ((c : CardRef) → entries_at entries.new c
         ≡ (if is_eq (by_name row.card c) then row ∷ [] else entries_at entries.old c)) }
 {
-    let mut own = Vec::new(alloc);
-    own.push(row)?;
+    let own = Vec::from_slice(alloc, &[row])?;
     entries.insert(row.card, own)?;
     Ok(())
 }
