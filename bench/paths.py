@@ -130,7 +130,7 @@ def logged(paths, name):
 
 
 def try_log(paths):
-    """A log with a commit, beside its library and alone. It stays."""
+    """A log with a commit, beside its library and alone. It stays. And a named pipe in place of a log: `init` makes no file beside it."""
     file, _ = logged(paths, "log.db")
     before = file.read_bytes()
     for _ in range(2):
@@ -139,6 +139,12 @@ def try_log(paths):
     paths.judge(file.read_bytes() == before, "the file is left as it was beside a log", "")
     file.rename(paths.path("moved.db"))
     paths.is_said(file, "beside a log")
+    file = paths.path("pipe.db")
+    os.mkfifo(paths.path("pipe.db-wal"))
+    ended = subprocess.run([paths.upd, "init", file], capture_output=True, text=True, check=False)
+    right = (ended.returncode, ended.stderr) == (3, "upd: Store (29) at 0\n") and not file.exists()
+    paths.judge(right, "init beside a named pipe", ended)
+    paths.is_said(file, "FILE-wal, can't be opened")
 
 
 def try_folders(paths):
@@ -157,7 +163,8 @@ def try_folders(paths):
 
 
 def try_owners(paths):
-    """A log with a commit of another user, and then of the user at work, of the file's owner, and of root. Only root can change owners."""
+    """A log with a commit of another user, and then of the user at work, of the file's owner, and of root; an empty file of another user. Only root can
+    change owners."""
     if os.geteuid() != 0:
         return
     file, log = logged(paths, "owners.db")
@@ -170,6 +177,10 @@ def try_owners(paths):
     paths.is_sound("a log of the file's owner", file, before=LOG)
     os.chown(log, 0, 0)
     paths.is_sound("a log of root", file, before=LOG, plain=True)
+    empty = paths.path("owners")
+    empty.write_bytes(b"")
+    os.chown(empty, NOBODY, NOBODY)
+    paths.is_said(empty, "the file is empty, and another user's")
 
 
 def try_damage(paths):

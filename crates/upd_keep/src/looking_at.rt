@@ -1,72 +1,87 @@
-//! What is at a path, as far as it shows without opening a database.
+//! What is at a path, as far as it shows without opening a database. The system is asked first, then pure functions judge.
 ghost use Rattle.std.specs.Prelude.{◌≡◌};
-ghost use Rattle.upd_keep.specs.Situations.{situation_of_kind, situation_unread};
+ghost use Rattle.upd_keep.specs.Situations.{situation_of_bytes, situation_of_kind, situation_of_path, situation_unread};
 
 use crate::situation::Situation;
+use std::fs;
 use std::fs::OpenOptions;
-use std::io::{ErrorKind, Read};
+use std::io::ErrorKind;
 use std::os::unix::fs::MetadataExt;
-use std::{fs, io};
-use upd_store::{is_closed_log, is_foreign_log, is_log_alone, is_open_folder};
-
-/// The first bytes of each file of SQLite.
-const FIRST_BYTES: &[u8; 16] = b"SQLite format 3\0";
+use upd_store::file::begins_as_database;
+use upd_store::{is_closed_log, is_foreign_file, is_foreign_log, is_log_alone, is_open_folder};
 
 /// Why there can't be a library at a path; None where there may be one. Nothing is made or changed.
 pub(crate) fn situation_at(rt: &HostRuntime, path: &str) -> Option<Situation> {
-    if is_log_alone(rt, path).unwrap_or(false) {
-        return Some(Situation::LogAlone);
+    let found = of_path(
+        is_log_alone(rt, path).unwrap_or(false),
+        kind_of(rt, path),
+        is_open_folder(rt, path).unwrap_or(false),
+        is_foreign_log(rt, path).unwrap_or(false),
+        is_closed_log(rt, path).unwrap_or(false),
+    );
+    if found.is_some() {
+        return found;
     }
-    match kind_of(rt, path) {
-        Ok(None) => match first_bytes(rt, path) {
-            Ok(first) if first != *FIRST_BYTES => Some(Situation::NotSqlite),
-            Ok(_) => unwritable(rt, path),
-            Err(error) => Some(of_reading(error.kind())),
-        },
-        Ok(situation) => situation,
-        Err(error) => Some(of_missing(rt, path, of_reading(error.kind()))),
-    }
+    let begins = begins_as_database(rt, path).map_err(|error| error.kind());
+    let writable = OpenOptions::new().read(true).write(true).open(rt, path);
+    of_bytes(begins, writable.is_ok())
 }
 
-/// The situation of a path that can't be looked at: `init` makes no file where a link leads, in a folder that everybody may
-/// write, nor beside a log that it can't take.
-fn of_missing(rt: &HostRuntime, path: &str, situation: Situation) -> Situation {
-    match situation {
-        Situation::NoFile if fs::symlink_metadata(rt, path).is_ok() => Situation::NoTarget,
-        Situation::NoFile if is_open_folder(rt, path).unwrap_or(false) => Situation::OpenFolder,
-        Situation::NoFile => of_log(rt, path).unwrap_or(situation),
-        _ => situation,
-    }
-}
-
-/// What is wrong with the log beside a path: another user's, or one that can't be opened.
-fn of_log(rt: &HostRuntime, path: &str) -> Option<Situation> {
-    if is_foreign_log(rt, path).unwrap_or(false) {
-        return Some(Situation::ForeignLog);
-    }
-    if is_closed_log(rt, path).unwrap_or(false) {
-        return Some(Situation::ClosedLog);
-    }
-    None
-}
-
-/// Why the file at a path is none that can be a library, or another user could put commits into it; None where neither is
-/// so.
-fn kind_of(rt: &HostRuntime, path: &str) -> io::Result<Option<Situation>> {
-    let found = fs::metadata(rt, path)?;
-    let kind = of_kind(found.is_dir(), found.is_file(), found.nlink(), found.len());
-    Ok(match kind {
-        None | Some(Situation::Empty) if is_open_folder(rt, path).unwrap_or(false) => {
-            Some(Situation::OpenFolder)
+/// The first situation that a path shows (rule 10.88): `kind` is what is there.
+fn of_path(
+    log_alone: bool,
+    kind: Option<Situation>,
+    open_folder: bool,
+    foreign_log: bool,
+    closed_log: bool,
+) -> Option<Situation>
+    ensures { result ≡ situation_of_path log_alone kind open_folder foreign_log closed_log }
+{
+    match kind {
+        _ if log_alone => Some(Situation::LogAlone),
+        None | Some(Situation::NoFile | Situation::Empty | Situation::ForeignEmpty) => {
+            if open_folder {
+                Some(Situation::OpenFolder)
+            } else if foreign_log {
+                Some(Situation::ForeignLog)
+            } else if closed_log {
+                Some(Situation::ClosedLog)
+            } else {
+                kind
+            }
         }
-        None | Some(Situation::Empty) => of_log(rt, path).or(kind),
         _ => kind,
-    })
+    }
 }
 
-/// Why there can be no library in what has this number of names and of bytes.
-fn of_kind(is_folder: bool, is_file: bool, names: u64, length: u64) -> Option<Situation>
-    ensures { result ≡ situation_of_kind is_folder is_file names length }
+/// Why there can be no library in what is at a path; None where it is a file with bytes.
+fn kind_of(rt: &HostRuntime, path: &str) -> Option<Situation> {
+    match fs::metadata(rt, path) {
+        Ok(found) => of_kind(
+            found.is_dir(),
+            found.is_file(),
+            found.nlink(),
+            found.len(),
+            is_foreign_file(rt, path).unwrap_or(false),
+        ),
+        Err(error) => match of_reading(error.kind()) {
+            Situation::NoFile if fs::symlink_metadata(rt, path).is_ok() => Some(
+                Situation::NoTarget,
+            ),
+            situation => Some(situation),
+        },
+    }
+}
+
+/// Why there can be no library in what has this number of names and of bytes, and may be another user's.
+fn of_kind(
+    is_folder: bool,
+    is_file: bool,
+    names: u64,
+    length: u64,
+    foreign: bool,
+) -> Option<Situation>
+    ensures { result ≡ situation_of_kind is_folder is_file names length foreign }
 {
     if is_folder {
         return Some(Situation::Folder);
@@ -77,22 +92,23 @@ fn of_kind(is_folder: bool, is_file: bool, names: u64, length: u64) -> Option<Si
     if names != 1 {
         return Some(Situation::SecondName);
     }
-    if length == 0 {
-        return Some(Situation::Empty);
+    match length {
+        0 if foreign => Some(Situation::ForeignEmpty),
+        0 => Some(Situation::Empty),
+        _ => None,
     }
-    None
 }
 
-fn first_bytes(rt: &HostRuntime, path: &str) -> io::Result<[u8; 16]> {
-    let mut first = [0u8; 16];
-    fs::open(rt, path)?.read_exact(&mut first)?;
-    Ok(first)
-}
-
-fn unwritable(rt: &HostRuntime, path: &str) -> Option<Situation> {
-    match OpenOptions::new().read(true).write(true).open(rt, path) {
-        Ok(_) => None,
-        Err(_) => Some(Situation::ReadOnly),
+/// Why there can be no library in a file that begins so, or can't be read: whether it does as SQLite's do, and whether the
+/// user may write it.
+fn of_bytes(begins: Result<bool, ErrorKind>, writable: bool) -> Option<Situation>
+    ensures { result ≡ situation_of_bytes begins writable }
+{
+    match begins {
+        Ok(true) if writable => None,
+        Ok(true) => Some(Situation::ReadOnly),
+        Ok(false) => Some(Situation::NotSqlite),
+        Err(kind) => Some(of_reading(kind)),
     }
 }
 

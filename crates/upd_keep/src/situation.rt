@@ -17,6 +17,7 @@ pub enum Situation {
     ForeignLog,
     ClosedLog,
     Empty,
+    ForeignEmpty,
     NotSqlite,
     NoPermission,
     ReadOnly,
@@ -59,6 +60,8 @@ impl Situation {
                 "the log beside it, FILE-wal, can't be opened: let the user read and write it; a folder or a link there must go"
             }
             Situation::Empty => "the file is empty: `upd init` makes a library in it",
+            Situation::ForeignEmpty =>
+                "the file is empty, and another user's: remove it, and `upd init` makes a library",
             Situation::NotSqlite =>
                 "this is not a database of SQLite: check the path; after an `upd init` that was ended, call it again",
             Situation::NoPermission => {

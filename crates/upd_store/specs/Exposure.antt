@@ -1,5 +1,5 @@
--- The folder of a library's file, and who may write it.
-use Rattle.std.specs.Prelude.{ℕ, Bool, List, Option, None, Some, ◌==◌, ◌&&◌, not, bit_and, codes, length, if◌then◌else◌}
+-- The folder of a library's file, and who may write it; its log.
+use Rattle.std.specs.Prelude.{ℕ, Bool, List, Option, None, Some, ◌==◌, ◌&&◌, ◌++◌, not, bit_and, codes, length, if◌then◌else◌}
 use Rattle.std.specs.Path.{path_parent}
 
 -- everybody may write a folder of this mode, and may replace the files of others there: it is not sticky
@@ -14,3 +14,7 @@ named_folder (Some parent) = if length parent == 0 then codes "." else parent
 -- the folder of a file
 abbrev pub folder_of : List ℕ → List ℕ
 folder_of path = named_folder (path_parent path)
+
+-- the log of a file, beside it
+abbrev pub log_of : List ℕ → List ℕ
+log_of file = file ++ codes "-wal"

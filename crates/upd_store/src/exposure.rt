@@ -58,7 +58,7 @@ pub fn is_foreign_log(rt: &HostRuntime, path: &str) -> io::Result<bool> {
 }
 
 /// Whether the file at a path is another user's than the one that runs this process. False where there is no file.
-pub(crate) fn is_foreign_file(rt: &HostRuntime, path: &str) -> io::Result<bool> {
+pub fn is_foreign_file(rt: &HostRuntime, path: &str) -> io::Result<bool> {
     let own = own_user(rt);
     Ok(owner_of(rt, path)?.unwrap_or(own) != own)
 }

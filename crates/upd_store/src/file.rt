@@ -21,7 +21,7 @@ ghost use Rattle.upd_store.specs.Faults.{IsUnopened};
 ghost use Rattle.upd_store.specs.OpenedAgain.{Closes, OpensAgain};
 
 use crate::exposure::{is_exposed, is_foreign_file};
-use crate::log_file::{is_log_alone, log_path};
+use crate::log_file::{is_log_in_the_way, log_path};
 use crate::sql_store::SqlStore;
 use crate::store_faults::{fault_of, no_memory, store_at};
 use sqlite::{Connection, FileFrom, FileStore, Files, Start};
@@ -72,12 +72,12 @@ impl<S: Start> SqlStore<FileStore<FileFrom<S>>> {
     }
 }
 
-/// Makes an empty library in a file, and the file where it doesn't exist, with mode 0600. Its pages end in the sums of SQLite's
-/// cksumvfs: a changed byte is found by each open. Where the file has any table the fault is Store,
-/// at the version in the file, 0 where it has none, and no byte of it is changed. An empty file, or one in which this
-/// call was cut off, counts as no file. Where there is no file and the log beside the path has frames, where the file is
-/// another user's, where another user could put commits into the library (`exposure`), and where no such file can be made,
-/// the fault is Store at 0, and no byte changes. Out of memory is NoMemory at 0.
+/// Makes an empty library in a file, and the file where it doesn't exist, with mode 0600. Its pages end in the sums of
+/// SQLite's cksumvfs: a changed byte is found by each open. Where the file has any table the fault is Store, at the
+/// version in the file, 0 where it has none, and no byte of it is changed. An empty file, or one in which this call was
+/// cut off, counts as no file. Where there is no file and the log beside the path has frames, where that log can't be
+/// opened, where the file is another user's, where another user could put commits into the library (`exposure`), and
+/// where no such file can be made, the fault is Store at 0, and no byte changes. Out of memory is NoMemory at 0.
 pub fn create<S: Start>(rt: &HostRuntime, path: &str, start: S) -> Result<FileLibrary<S>, Fault>
     ensures shows { IfOk result (λ s. HasCleanDisk (file_state s.conn)
         → IsTrue (file_state s.conn).is_open × ShowsTables no_rows (file_state s.conn).committed) }
@@ -96,19 +96,19 @@ pub fn create<S: Start>(rt: &HostRuntime, path: &str, start: S) -> Result<FileLi
     }
 }
 
-/// Store at 0 where a new file would have its log written over frames of another.
+/// Store at 0 where a new file would have its log written over frames of another, or could have none.
 fn spare_log(rt: &HostRuntime, path: &str) -> Result<(), Fault>
     ensures unopened { IfErr result IsUnopened }
 {
-    match is_log_alone(rt, path) {
+    match is_log_in_the_way(rt, path) {
         Ok(false) => Ok(()),
         Ok(true) => Err(store_at(0)),
         Err(error) => Err(file_fault(error)),
     }
 }
 
-/// Store at 0 where a path isn't a file's name, and where another user could put commits into the library there. Where that
-/// can't be found out, the open that follows says why.
+/// Store at 0 where a path isn't a file's name, and where another user could put commits into the library there, or that
+/// can't be found out.
 pub(crate) fn refuse_exposed(rt: &HostRuntime, path: &str) -> Result<(), Fault>
     ensures lost { IfErr result IsLost }
 {
@@ -116,9 +116,9 @@ pub(crate) fn refuse_exposed(rt: &HostRuntime, path: &str) -> Result<(), Fault>
         return Err(store_at(0));
     }
     match is_exposed(rt, path) {
+        Ok(false) => Ok(()),
         Ok(true) => Err(store_at(0)),
-        Err(error) if error.kind() == io::ErrorKind::OutOfMemory => Err(no_memory(AllocError)),
-        _ => Ok(()),
+        Err(error) => Err(file_fault(error)),
     }
 }
 

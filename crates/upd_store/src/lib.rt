@@ -17,7 +17,7 @@ mod tree_store;
 mod tree_tallies;
 mod version;
 
-pub use exposure::{is_foreign_log, is_open_folder};
+pub use exposure::{is_foreign_file, is_foreign_log, is_open_folder};
 pub use log_file::{has_frames, is_closed_log, is_log_alone};
 pub use one_open::{Opened, Purpose, open_once, opened};
 pub use sql_store::SqlStore;

@@ -1,5 +1,10 @@
 //! The log beside a library's file, as far as it shows without opening either.
 
+ghost use Rattle.std.specs.Prelude.{◌≡◌, IfOk};
+ghost use Rattle.std.specs.String.{string_bytes};
+ghost use Rattle.upd_store.specs.Exposure.{log_of};
+
+use std::alloc::{AllocError, Global};
 use std::fs::OpenOptions;
 use std::io::ErrorKind;
 use std::{fs, io};
@@ -14,11 +19,18 @@ pub fn has_frames(rt: &HostRuntime, path: &str) -> io::Result<bool> {
 
 /// The path of the log beside a file.
 pub(crate) fn log_path(rt: &HostRuntime, path: &str) -> io::Result<String> {
-    Ok(format!(in rt.alloc(); "{}-wal", real_path(rt, path)?.as_str())?)
+    Ok(log_of(rt.alloc(), real_path(rt, path)?.as_str())?)
 }
 
-/// Whether what is at the place of the log beside a file can't be opened as one: it is no regular file, or the user may not
-/// read and write it.
+/// The path of the log beside a file that is no link.
+fn log_of(alloc: Global, file: &str) -> Result<String, AllocError>
+    ensures { IfOk result (λ log. string_bytes log ≡ log_of file.now) }
+{
+    [file, "-wal"].concat(alloc)
+}
+
+/// Whether what is at the place of the log beside a file can't be opened as one: it is no regular file, the user may not
+/// read and write it, or the system can't say what it is.
 pub fn is_closed_log(rt: &HostRuntime, path: &str) -> io::Result<bool> {
     let log = log_path(rt, path)?;
     match fs::symlink_metadata(rt, log.as_str()) {
@@ -31,8 +43,14 @@ pub fn is_closed_log(rt: &HostRuntime, path: &str) -> io::Result<bool> {
         }
         Ok(_) => Ok(true),
         Err(error) if is_missing(error.kind()) => Ok(false),
-        Err(error) => Err(error),
+        Err(error) if error.kind() == ErrorKind::OutOfMemory => Err(error),
+        Err(_) => Ok(true),
     }
+}
+
+/// Whether no file may be made at a path for the log that is there: it is alone, or can't be opened.
+pub(crate) fn is_log_in_the_way(rt: &HostRuntime, path: &str) -> io::Result<bool> {
+    Ok(is_log_alone(rt, path)? || is_closed_log(rt, path)?)
 }
 
 /// Whether there is no file at a path, or an empty one, and the log beside it has frames. They are of a library that was

@@ -1,5 +1,5 @@
 -- The lines of a server: where it listens or why there is no socket, and what came of each connection.
-use Rattle.std.specs.Prelude.{◌≡◌, ◌⊎◌, ℕ, List, [], ◌∷◌, ◌++◌, codes, Option, Result, Ok, Err}
+use Rattle.std.specs.Prelude.{◌≡◌, ◌⊎◌, ℕ, Bool, List, [], ◌∷◌, ◌++◌, codes, length, nat_le, Option, Result, Ok, Err}
 use Rattle.std.specs.Io.KnownBytes.{Appends}
 use Rattle.std.specs.Net.Text.{socket_text}
 use Rattle.std.specs.declared.net.socket_addr.SocketAddr.{SocketAddr}
@@ -20,6 +20,10 @@ abbrev pub ReportsPlace : {U : Type 0} → Result U Fault → Option (List ℕ) 
 ReportsPlace (Ok u) faults faults' = (place : SocketAddr) × Appends faults faults' (listening_line place)
 ReportsPlace (Err fault) faults faults' =
     ((fault ≡ write_failed) × ((place : SocketAddr) × AppendsFront faults faults' (listening_line place))) ⊎ Appends faults faults' []
+
+-- the path of a socket has 100 bytes at most
+abbrev pub fits_path : List ℕ → Bool
+fits_path path = nat_le (length path) 100
 
 -- the line on a path, as `upd: listening on desk.socket`
 abbrev pub path_line : List ℕ → List ℕ → List ℕ → List ℕ

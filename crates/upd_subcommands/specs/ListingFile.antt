@@ -1,7 +1,8 @@
 -- How `correct` answers where the file has a deck's listing in place of a library.
-use Rattle.std.specs.Prelude.{◌≤◌, ◌<◌, ◌⊎◌, ℕ, List, [], ◌∷◌, ◌++◌, codes, decimal, length, Option, Result, Ok, Err}
+use Rattle.std.specs.Prelude.{◌≤◌, ◌<◌, ◌⊎◌, ℕ, Bool, List, [], ◌∷◌, ◌++◌, codes, decimal, length, Option, Result, Ok, Err}
 use Rattle.std.specs.Io.KnownBytes.{Appends}
 use Rattle.upd_text.specs.Faults.{fault_at}
+use Rattle.upd_text.specs.Names.{is_between}
 use Rattle.upd_text.specs.declared.fault.FaultKind.TheVariants.{RunLong}
 use Rattle.upd_correct.specs.ListedRuns.{IsListedCause, IsListedRun}
 use Rattle.upd_correct.specs.declared.listed_deck.ListedError.{ListedError}
@@ -11,6 +12,10 @@ use Rattle.upd_edit.specs.declared.editing.TheConstants.{MAX_TEXT_BYTES}
 use Rattle.upd_subcommands.specs.Command.{Ending, IsReported}
 use Rattle.upd_subcommands.specs.Correcting.{IsRefusedBy, ReportsCorrection}
 use Rattle.upd_subcommands.specs.Status.{fault_line, no_memory}
+
+-- a listing has 1 to 5,000,025 bytes
+abbrev pub is_listing_length : ℕ → Bool
+is_listing_length length = is_between 1 5000025 length
 
 -- the line that reports what is wrong in a line: name, place and words, as `OtherDeck 3:1 this line begins a deck that FILE does not list`
 abbrev pub place_line : List ℕ → ℕ → List ℕ → List ℕ

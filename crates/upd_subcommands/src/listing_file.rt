@@ -1,7 +1,7 @@
 //! `correct` where the file is the listing of a deck in place of a library.
-ghost use Rattle.std.specs.Prelude.{◌≡◌, ◌≤◌, ◌⊎◌, IfErr, IfOk, IsTrue, vec_len};
+ghost use Rattle.std.specs.Prelude.{◌≡◌, ◌≤◌, ◌⊎◌, IfErr, IfOk, IfSome, IsTrue, length, vec_len};
 ghost use Rattle.upd_subcommands.specs.Command.{IsReported, ending};
-ghost use Rattle.upd_subcommands.specs.ListingFile.{CorrectsListing, IsListedFault, place_line};
+ghost use Rattle.upd_subcommands.specs.ListingFile.{CorrectsListing, IsListedFault, is_listing_length, place_line};
 ghost use Rattle.upd_subcommands.specs.Status.{no_memory};
 
 use crate::correction_command::{write_refusals, write_run};
@@ -26,21 +26,28 @@ const FIRST_BYTES: &[u8; 16] = b"SQLite format 3\0";
 /// The bytes of a file that is taken for a listing: it can be read, has no more bytes than a listing can have, is not
 /// empty, and does not begin as a file of SQLite. The only error is NoMemory, at 0.
 pub fn read_listing(rt: &HostRuntime, path: &str) -> Result<Option<Vec<u8>>, Fault>
-    ensures { IfErr result (λ fault. fault ≡ no_memory) }
+    ensures length { IfOk result (λ read. IfSome read (λ bytes. IsTrue (is_listing_length (length bytes.items)))) }
+    ensures err { IfErr result (λ fault. fault ≡ no_memory) }
 {
     let Ok(mut file) = File::open(rt, path) else {
         return Ok(None);
     };
     let mut bytes = Vec::new(rt.alloc());
     if !fill(&mut file, FIRST_BYTES.len(), &mut bytes)?
-        || bytes.is_empty()
         || bytes.starts_with(FIRST_BYTES)
         || !fill(&mut file, MAX_LISTING_BYTES + 1, &mut bytes)?
-        || bytes.len() > MAX_LISTING_BYTES
+        || !is_listing_length(bytes.len())
     {
         return Ok(None);
     }
     Ok(Some(bytes))
+}
+
+/// Whether a file of this many bytes can be a listing.
+fn is_listing_length(length: usize) -> bool
+    ensures { result ≡ is_listing_length length }
+{
+    0 < length && length <= MAX_LISTING_BYTES
 }
 
 /// Whether a file could be read up to a number of bytes. The only error is NoMemory, at 0.

@@ -1,4 +1,6 @@
 //! A Unix socket that only its owner may use.
+ghost use Rattle.std.specs.Prelude.{◌≡◌};
+ghost use Rattle.upd_subcommands.specs.Listening.{fits_path};
 
 use std::fs::{DirBuilder, Permissions};
 use std::io::ErrorKind;
@@ -12,7 +14,7 @@ const MAX_PATH: usize = 100;
 /// Makes a socket of mode 0600 at a path, and listens there. A socket that nobody serves is replaced. The error says why
 /// there is none.
 pub(crate) fn bind_local(rt: &HostRuntime, path: &str) -> Result<UnixListener, &'static str> {
-    if path.len() > MAX_PATH {
+    if !fits_path(path) {
         return Err(": its path has more than 100 bytes");
     }
     if let Ok(found) = fs::symlink_metadata(rt, path) {
@@ -27,6 +29,13 @@ pub(crate) fn bind_local(rt: &HostRuntime, path: &str) -> Result<UnixListener, &
         Ok(listener) => Ok(listener),
         Err(_) => Err(": it can't be made, or PATH.new exists"),
     }
+}
+
+/// Whether a path is short enough for that of a socket.
+fn fits_path(path: &str) -> bool
+    ensures { result ≡ fits_path path.now }
+{
+    path.len() <= MAX_PATH
 }
 
 /// Whether nobody listens at a socket.
