@@ -8,5 +8,6 @@ pub mod Found
 pub mod Conflicts
 pub mod YankWarnings
 pub mod Warnings
+pub mod StayingDecks
 pub mod EditCauses
 pub mod Conditions

@@ -81,7 +81,7 @@ deck_after l ranges r =
 
 -- the warning of the deck that came right after the last ident of a range, and stays
 abbrev pub deck_kind : TakingWord → LibraryView → List Ages → Ages → Option WarningKind
-deck_kind word l ranges r = option_map (λ i. DeckStays word (name_of l.idents r.to) i.name) (deck_after l ranges r)
+deck_kind word l ranges r = option_map (λ i. DeckStays word (name_of l.idents r.to) i.name false) (deck_after l ranges r)
 
 -- the same at a line
 abbrev pub deck_warning : ℕ → TakingWord → LibraryView → List Ages → Ages → List Warning

@@ -10,12 +10,9 @@ ghost use Rattle.upd_desk.specs.Journal.{library_after};
 ghost use Rattle.upd_desk.specs.Outcomes.{reply_on};
 ghost use Rattle.upd_edit.specs.EditCauses.{IsAnswerIn, IsEditLoss, IsPartsRefusal, base_in, edit_error, edited_in, failures_after_edit};
 ghost use Rattle.upd_edit.specs.Trying.{tried};
-ghost use Rattle.upd_edit.specs.Warnings.{warning_list};
 ghost use Rattle.upd_row_store.specs.Keeping.{CountsFailure, IsLost, Keeps};
 
 use crate::earlier::as_of;
-use crate::warning::Warning;
-use crate::warnings::warning_list;
 use std::alloc::Global;
 use upd_core::{Library, Name};
 use upd_correct::{CorrectError, Refusal, correct, correct_parts, correct_since};
@@ -59,26 +56,6 @@ pub fn try_at<S: RowStore>(
     };
     match reply_on(alloc, &library, &arrival) {
         Ok(reply) => Ok(reply),
-        Err(fault) => Err(fault),
-    }
-}
-
-/// The warnings of a run that is tried now, as `upd_edit::warning_list` makes them. After NoMemory or Store, at 0, it can be
-/// asked again.
-pub fn warnings_at<S: RowStore>(
-    alloc: Global,
-    desk: &mut Desk<S>,
-    since: Option<Name>,
-    run: &[u8],
-) -> Result<Vec<Warning>, Fault>
-    ensures list { Tells S.Meaning (warning_list since run.now)
-        (result_map_both (λ list. list.items) (λ fault. fault) result) desk.old.store desk.new.store }
-    ensures same { Keeps S.Meaning desk.old.store desk.new.store }
-    ensures failed { CountsFailure S.Meaning result desk.old.store desk.new.store }
-{
-    let library = desk.library(alloc)?;
-    match warning_list(alloc, &library, since, run) {
-        Ok(list) => Ok(list),
         Err(fault) => Err(fault),
     }
 }

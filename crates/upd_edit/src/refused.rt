@@ -75,7 +75,7 @@ fn problem_words(problem: Problem) -> (&'static str, &'static str)
         Problem::FirstCard => ("FirstCard", "the first card of a deck can't be changed"),
         Problem::OutOfUse => (
             "OutOfUse",
-            "a yank takes this deck out of use, so no run can change its text",
+            "a yank takes this deck out of use, or it came after SINCE, so no run can change its text",
         ),
         Problem::DeckTwice => ("DeckTwice", "this deck is in the text twice"),
         Problem::NameTaken => ("NameTaken", "this name is in use"),

@@ -43,11 +43,12 @@ pub enum WarningKind {
         card: CardRef,
         next: CardRef,
     },
-    /// A deck that came right after an ident that goes stays.
+    /// A deck right after a set that goes stays. Whether they came by one run is known, or it may be so.
     DeckStays {
         word: TakingWord,
-        last: Name,
+        set: Name,
         deck: Name,
+        known: bool,
     },
 }
 

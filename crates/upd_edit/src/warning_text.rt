@@ -74,9 +74,18 @@ fn kind_words(alloc: Global, kind: &WarningKind) -> Result<String, AllocError> {
             let word = taking(*word);
             format!(in alloc; "{next} follows {card}, which this {word} takes")
         }
-        WarningKind::DeckStays { word, last, deck } => {
+        WarningKind::DeckStays {
+            word,
+            set,
+            deck,
+            known,
+        } => {
             let word = taking(*word);
-            format!(in alloc; "{deck} came after {last} and stays: {word} {last},{deck}")
+            if *known {
+                format!(in alloc; "{deck} came with {set} and stays: {word} {set},{deck}")
+            } else {
+                format!(in alloc; "if {deck} came with {set}, it stays: {word} {set},{deck}")
+            }
         }
         _ => String::from_str(alloc, "the run is empty: it changes nothing"),
     }

@@ -241,8 +241,9 @@ impl<'a> Taking<'a> {
         let deck = self.deck_after(range)?;
         Some(WarningKind::DeckStays {
             word: self.word,
-            last: name_of(self.library, range.to),
+            set: name_of(self.library, range.to),
             deck: deck.name,
+            known: false,
         })
     }
 

@@ -13,7 +13,7 @@ use Rattle.upd_desk.specs.Holding.{IsOwed, is_lost}
 use Rattle.upd_edit.specs.Source.{source}
 use Rattle.upd_desk.specs.Journal.{library_after}
 use Rattle.upd_records.specs.Rows.{Rows, RunView}
-use Rattle.upd_row_store.specs.Keeping.{CountsFailure, FindsRows, IsLost}
+use Rattle.upd_row_store.specs.Keeping.{CountsFailure, FindsRows, IsLost, IsShown}
 use Rattle.upd_row_store.specs.Tables.{ListsRuns}
 use Rattle.upd_row_store.specs.declared.store.StoredRuns.{StoredRuns}
 use Rattle.upd_wire.proofs.AskLemmas.{fails_alike}
@@ -30,17 +30,25 @@ module _ {S : Type 0} {meaning : Ghosts S} where
       let IsRight : Query → Type 0 = λ q. IsAnswered meaning q (result_map_both items (λ fault. fault) result) old new in
       subst IsRight (sym is) (record { tells = tells; same = same; counts = fails_alike items _ result counts })
 
+  -- what is right of the library that was read, and then of the runs that the store showed
+  pub told_of_shown : {A : Type 0} (defined : List RunView → LibraryView → Result A Fault) (l : LibraryView) (result : Result A Fault) (old mid new : S)
+      → Tells meaning (λ l. Ok l) (Ok l) old mid → Keeps meaning old mid → (meaning.is_honest mid → meaning.is_open mid) → Keeps meaning mid new
+      → (meaning.is_honest new → (rows : Rows) → IsShown meaning rows mid → IsOwed (defined rows.runs l) result)
+      → TellsOfRuns meaning defined result old new
+  told_of_shown defined l result old mid new tells first opens second right honest journal held rows shown =
+      let early = second.later.honest honest in
+      let is : library_after journal ≡ l = cc (tells early journal held) in
+      let there = shown_there old mid first early (opens early) rows (shown (first.later.was_open early (opens early))) in
+      subst (λ l. IsOwed (defined rows.runs l) result) (sym is) (right honest rows there)
+
   -- what is defined of the library and of the runs that were read one after the other
   pub told_of_runs : {A : Type 0} (defined : List RunView → LibraryView → Result A Fault) (l : LibraryView) (found : StoredRuns) (result : Result A Fault)
       (old mid new : S) → Tells meaning (λ l. Ok l) (Ok l) old mid → Keeps meaning old mid → (meaning.is_honest mid → meaning.is_open mid)
       → FindsRows meaning (Ok found) mid new ListsRuns → Keeps meaning mid new → IsOwed (defined found.runs.items l) result
       → TellsOfRuns meaning defined result old new
-  told_of_runs defined l found result old mid new tells first opens finds second meets honest journal held rows shown =
-      let early = second.later.honest honest in
-      let is : library_after journal ≡ l = cc (tells early journal held) in
-      let lists = finds honest rows (shown_there old mid first early (opens early) rows shown) in
-      let of_found : IsOwed (defined rows.runs l) result = subst (λ runs. IsOwed (defined runs l) result) lists.runs meets in
-      subst (λ l. IsOwed (defined rows.runs l) result) (sym is) of_found
+  told_of_runs defined l found result old mid new tells first opens finds second meets =
+      told_of_shown defined l result old mid new tells first opens second
+      (λ honest rows shown. subst (λ runs. IsOwed (defined runs l) result) (finds honest rows shown).runs meets)
 
 -- the library or the runs could not be read
 pub none_of_runs : {S : Type 0} (meaning : Ghosts S) {A : Type 0} (defined : List RunView → LibraryView → Result A Fault) (fault : Fault)

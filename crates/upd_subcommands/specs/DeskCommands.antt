@@ -23,9 +23,9 @@ use Rattle.upd_subcommands.specs.Reporting.{ReportsConflicts, ReportsMark, Repor
 use Rattle.upd_edit.specs.ActiveText.{active_text}
 use Rattle.upd_edit.specs.Earlier.{text_since}
 use Rattle.upd_edit.specs.Source.{source}
+use Rattle.upd_edit.specs.StayingDecks.{tried_warnings}
 use Rattle.upd_edit.specs.Trying.{tried}
 use Rattle.upd_edit.specs.Conditions.{ArrivesSince}
-use Rattle.upd_edit.specs.Warnings.{warning_list}
 use Rattle.upd_edit.specs.declared.warning.Warning.{Warning}
 use Rattle.upd_edit.specs.declared.editing.TheConstants.{MAX_TEXT_BYTES}
 use Rattle.upd_edit.specs.EditCauses.{IsAnswerIn, edited_in, failures_after_edit}
@@ -97,11 +97,16 @@ module _ {S : Type 0} (meaning : Ghosts S) where
       × CountsFailure meaning answer old new × TellsSince answer result output output' faults faults')
       ⊎ ((new ≡ old) × IsUnread result × Appends output output' [])
 
+  -- A query about stored runs answers what is defined of the runs that the store shows, and of the library after any journal that it holds.
+  abbrev pub TellsOfRuns : {A : Type 0} → (List RunView → LibraryView → Result A Fault) → Result A Fault → S → S → Type 0
+  TellsOfRuns defined result old new = meaning.is_honest new → (journal : Journal) → IsHeld meaning journal old → (rows : Rows)
+      → (meaning.is_open old → IsShown meaning rows old) → IsOwed (defined rows.runs (library_after journal)) result
+
   -- a run was tried: here are the reply that it would get and its warnings, and nothing is changed
   pub record IsTriedAs (mode : List ℕ) (since : Option (List ℕ)) (run : List ℕ) (answer : Result ReplyView Fault) (warnings : Result (List Warning) Fault)
       (old new : S) : Type 0 where
     pub reply : Tells meaning (reply_on (tried mode run)) answer old new
-    pub warns : Tells meaning (warning_list since run) warnings old new
+    pub warns : TellsOfRuns (tried_warnings since run) warnings old new
     pub same : Keeps meaning old new
 
   -- a run was tried, and its reply and its warnings were told
@@ -127,11 +132,6 @@ module _ {S : Type 0} (meaning : Ghosts S) where
   SettlesSite site number result old new output output' =
       (answer : Result ℕ Fault) × Settles meaning site number answer old new
       × CountsFailure meaning answer old new × ReportsMark site answer result output output'
-
-  -- A query about stored runs answers what is defined of the runs that the store shows, and of the library after any journal that it holds.
-  abbrev pub TellsOfRuns : {A : Type 0} → (List RunView → LibraryView → Result A Fault) → Result A Fault → S → S → Type 0
-  TellsOfRuns defined result old new = meaning.is_honest new → (journal : Journal) → IsHeld meaning journal old → (rows : Rows)
-      → IsShown meaning rows old → IsOwed (defined rows.runs (library_after journal)) result
 
   -- what a query is answered
   abbrev pub TellsQuery : Query → Result (List ℕ) Fault → S → S → Type 0

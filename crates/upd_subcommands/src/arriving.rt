@@ -2,7 +2,9 @@
 ghost use Rattle.std.specs.Prelude.{◌≡◌, ◌≢◌, ◌⊎◌, ◌+◌, ◌∷◌, ◌++◌, [], Err, IfErr, IfOk, Ok};
 ghost use Rattle.std.specs.Result.{result_map_both};
 ghost use Rattle.upd_subcommands.specs.Command.{IsReported, ending};
-ghost use Rattle.upd_subcommands.specs.DeskCommands.{HandsIn, HandsInSince, SettlesSite, TellsSince, TriesRun};
+ghost use Rattle.upd_edit.specs.StayingDecks.{tried_warnings, warnings_by_runs};
+ghost use Rattle.upd_row_store.specs.Keeping.{FindsRows, IsLost, Keeps};
+ghost use Rattle.upd_subcommands.specs.DeskCommands.{HandsIn, HandsInSince, SettlesSite, TellsOfRuns, TellsSince, TriesRun};
 ghost use Rattle.upd_subcommands.specs.Status.{exit_status};
 ghost use Rattle.upd_subcommands.specs.Streams.{TakesFront};
 ghost use Rattle.upd_subcommands.specs.Reporting.{ReportsConflicts, ReportsMark, ReportsRun, ReportsTried, Writes};
@@ -13,8 +15,11 @@ use crate::streams::{read_input, write_out, write_parts_out};
 use itoa::Buffer;
 use std::alloc::Global;
 use std::io::{Read, Write};
+use upd_core::Library;
 use upd_desk::{Desk, Reply, fault_answer, settled_parts};
-use upd_edit::{Warning, arrive_since, try_at, warnings_at, write_warnings};
+use upd_edit::{
+    Warning, arrive_since, ask_runs, try_at, warning_list, warnings_by_runs, write_warnings,
+};
 use upd_row_store::RowStore;
 use upd_text::{Fault, FaultKind, Name};
 
@@ -124,6 +129,47 @@ pub(crate) fn try_run<S: RowStore, W: Write, E: Write>(
             Err(error) => finish(Err(Fault::from(error)), faults),
         },
         Err(fault) => finish(Err(fault), faults),
+    }
+}
+
+/// The warnings of a run that is tried now, as the stored runs have them. After NoMemory or Store, at 0, it can be asked
+/// again.
+fn warnings_at<S: RowStore>(
+    alloc: Global,
+    desk: &mut Desk<S>,
+    since: Option<Name>,
+    run: &[u8],
+) -> Result<Vec<Warning>, Fault>
+    ensures list { TellsOfRuns S.Meaning (tried_warnings since run.now)
+        (result_map_both (λ list. list.items) (λ fault. fault) result) desk.old.store desk.new.store }
+    ensures same { Keeps S.Meaning desk.old.store desk.new.store }
+{
+    let library = desk.library(alloc)?;
+    match warning_list(alloc, &library, since, run) {
+        Ok(list) => by_stored_runs(alloc, desk, &library, list),
+        Err(fault) => Err(fault),
+    }
+}
+
+/// Warnings as the stored runs have them. These are read only where they can make a difference.
+fn by_stored_runs<S: RowStore>(
+    alloc: Global,
+    desk: &mut Desk<S>,
+    library: &Library,
+    list: Vec<Warning>,
+) -> Result<Vec<Warning>, Fault>
+    ensures list { FindsRows S.Meaning result desk.old.store desk.new.store
+        (λ rows told. told.items ≡ warnings_by_runs rows.runs library.now.idents list.items) }
+    ensures lost { IfErr result IsLost }
+    ensures same { Keeps S.Meaning desk.old.store desk.new.store }
+{
+    if !ask_runs(&list) {
+        return Ok(list);
+    }
+    let stored = desk.stored_runs(alloc)?;
+    match warnings_by_runs(alloc, &stored.runs, library.idents(), &list) {
+        Ok(told) => Ok(told),
+        Err(error) => Err(Fault::from(error)),
     }
 }
 

@@ -125,7 +125,7 @@ fn a_deck_that_came_later_is_refused(rt: HostRuntime) -> Result<(), Fail> {
         &library,
         "A",
         "*DECK B\nC\n",
-        "OutOfUse 1:1 a yank takes this deck out of use, so no run can change its text\n",
+        "OutOfUse 1:1 a yank takes this deck out of use, or it came after SINCE, so no run can change its text\n",
     )
 }
 

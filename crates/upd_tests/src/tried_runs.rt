@@ -1,8 +1,9 @@
 //! Warnings of runs that are tried on a small library. Rule 10.68.
 
+use crate::examined_tables::{RunText, put_runs};
 use std::test::Fail;
 use upd_core::{Library, Name};
-use upd_edit::{warning_list, write_warnings};
+use upd_edit::{Warning, warning_list, warnings_by_runs, write_warnings};
 use upd_testkit::applying::{after, name};
 use upd_testkit::check::same_text;
 
@@ -74,10 +75,69 @@ const TAKEN: &[(&str, &str)] = &[
     ("*IDENT Z\n*YANK P8,P3\n*YANK P3.P8\n", ""),
     (
         "*IDENT Z\n*YANK S\n",
-        "upd: 2: NEWD came after S and stays: yank S,NEWD\n",
+        "upd: 2: if NEWD came with S, it stays: yank S,NEWD\n",
     ),
     ("*IDENT Z\n*YANK S,NEWD\n", ""),
 ];
+
+/// Deck A, S and NEWD by one run, both purged by the next, and again by a run of each.
+const CAME_AGAIN: &[&str] = &[
+    "*DECK A\n1\n2\n",
+    "*IDENT S\n*INSERT A.2\nLAST\n*DECK NEWD\nLINE\n",
+    "*PURGE S\n*PURDECK NEWD\n",
+    "*IDENT S\n*INSERT A.2\nLAST\n",
+    "*DECK NEWD\nLINE\n",
+];
+
+/// Stored runs of S and NEWD by what their replies say, the run, and what is reported of the deck that stays.
+const STAYING: &[(&[RunText], &str, &str)] = &[
+    // One run introduced both.
+    (
+        &[P8_ONLY, (4, 1, true, b"{\"idents\":[\"S\",\"NEWD\"]}")],
+        "*IDENT Z\n*YANK S\n",
+        "upd: 2: NEWD came with S and stays: yank S,NEWD\n",
+    ),
+    (
+        &[(4, 1, true, b"{\"idents\":[\"S\",\"NEWD\"]}")],
+        "*PURGE S\n",
+        "upd: 1: NEWD came with S and stays: purge S,NEWD\n",
+    ),
+    // One introduced the set without the deck, or the deck without the set; other warnings stay.
+    (&[S_ONLY, NEWD_ONLY], "*IDENT Z\n*YANK S\n", ""),
+    (&[NEWD_ONLY], "*IDENT Z\n*YANK S\n", ""),
+    (
+        &[S_ONLY],
+        "*IDENT Z\n*YANK S\n*YANK P8,P3\n*DELETE P3.2\n",
+        "upd: 4: P3.2 is off already, by P8\n",
+    ),
+    // Neither is stored; a refused run introduced nothing.
+    (
+        &[P8_ONLY, (4, 1, false, b"{\"idents\":[\"S\",\"NEWD\"]}")],
+        "*IDENT Z\n*YANK S\n",
+        "upd: 2: if NEWD came with S, it stays: yank S,NEWD\n",
+    ),
+];
+
+/// The same where both names came again.
+const STAYING_AGAIN: &[(&[RunText], &str, &str)] = &[
+    // The stored run may be that of the purged ones.
+    (
+        &[(2, 1, true, b"{\"idents\":[\"S\",\"NEWD\"]}")],
+        "*IDENT Z\n*YANK S\n",
+        "upd: 2: if NEWD came with S, it stays: yank S,NEWD\n",
+    ),
+    (
+        &[(2, 1, true, b"{\"idents\":[\"S\",\"NEWD\"]}"), NEWD_ONLY],
+        "*IDENT Z\n*YANK S\n",
+        "",
+    ),
+];
+
+const P8_ONLY: RunText = (3, 1, true, b"{\"idents\":[\"P8\"]}");
+
+const S_ONLY: RunText = (4, 1, true, b"{\"idents\":[\"S\"]}");
+
+const NEWD_ONLY: RunText = (5, 1, true, b"{\"idents\":[\"NEWD\"]}");
 
 /// The youngest ident that the author of a run on the same library has seen, the run, and what is reported of it.
 const LATER: &[(&str, &str, &str)] = &[
@@ -117,8 +177,32 @@ fn has_warnings(
 ) -> Result<(), Fail> {
     let alloc = library.allocator();
     let list = warning_list(alloc, library, since, run.as_bytes())?;
-    let found = write_warnings(alloc, run.as_bytes(), &list)?;
+    are_written_as(library, &list, run, wanted)
+}
+
+fn are_written_as(
+    library: &Library,
+    list: &[Warning],
+    run: &str,
+    wanted: &str,
+) -> Result<(), Fail> {
+    let found = write_warnings(library.allocator(), run.as_bytes(), list)?;
     same_text(run, std::str::from_utf8(&found)?, wanted)
+}
+
+fn have_warnings_by_runs(
+    library: &Library,
+    cases: &[(&[RunText], &str, &str)],
+) -> Result<(), Fail> {
+    let alloc = library.allocator();
+    let mut runs = Vec::new(alloc);
+    for (stored, run, wanted) in cases {
+        put_runs(alloc, &mut runs, stored)?;
+        let list = warning_list(alloc, library, None, run.as_bytes())?;
+        let told = warnings_by_runs(alloc, &runs, library.idents(), &list)?;
+        are_written_as(library, &told, run, wanted)?;
+    }
+    Ok(())
 }
 
 fn have_warnings(library: &Library, runs: &[(&str, &str)]) -> Result<(), Fail> {
@@ -136,6 +220,12 @@ fn what_may_not_be_meant_is_reported(rt: HostRuntime) -> Result<(), Fail> {
 #[test]
 fn what_is_taken_below_others_is_reported(rt: HostRuntime) -> Result<(), Fail> {
     have_warnings(&after(rt.alloc(), EDITED_BY_MANY)?, TAKEN)
+}
+
+#[test]
+fn stored_runs_say_whether_a_deck_came_with_a_set(rt: HostRuntime) -> Result<(), Fail> {
+    have_warnings_by_runs(&after(rt.alloc(), EDITED_BY_MANY)?, STAYING)?;
+    have_warnings_by_runs(&after(rt.alloc(), CAME_AGAIN)?, STAYING_AGAIN)
 }
 
 #[test]

@@ -29,8 +29,8 @@ pub(crate) fn push_introducer(
     }
 }
 
-/// The last run that introduced an ident of this name, where all runs that did are among these.
-fn introducer<'a>(
+/// The run that introduced the youngest ident of a name, where the runs of all idents of that name are among these.
+pub fn introducer<'a>(
     alloc: Global,
     runs: &'a [RunRow],
     idents: &[Ident],
@@ -60,7 +60,7 @@ fn idents_named(idents: &[Ident], name: &Name) -> usize
 }
 
 /// Whether a stored run introduced an ident of this name, as its reply says.
-fn introduces(alloc: Global, run: &RunRow, name: &Name) -> Result<bool, AllocError>
+pub fn introduces(alloc: Global, run: &RunRow, name: &Name) -> Result<bool, AllocError>
     ensures { IfOk result (λ is. is ≡ introduces name.now run.now) }
 {
     if !run.accepted {

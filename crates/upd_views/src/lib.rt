@@ -19,6 +19,7 @@ pub use deck_blame::{blame, texts_begin_in_one_column};
 pub use escaping::escaped_texts_have_no_markup;
 pub use fault_texts::{each_fault_has_one_text, explain, fault_list};
 pub use ident_report::show;
+pub use introducing_run::{introducer, introduces};
 pub use library_page::{page, pages_need_nothing_outside};
 pub use printing::printed_texts_are_printable;
 pub use runs::{run_lines, run_list};
