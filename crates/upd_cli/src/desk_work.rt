@@ -12,12 +12,13 @@ use sqlite::{FileFrom, FileStore, Files, Start};
 use sqlite_disk::Disk;
 use std::alloc::Global;
 use std::io::{Read, Write};
+use std::time::Clock;
 use upd_desk::Desk;
 use upd_memory::MirrorStore;
 use upd_row_store::{Meaning, RowStore};
 use upd_store::file::{FileLibrary, closed};
 use upd_store::{Opened, Purpose, SqlStore, TreeStore, open_once};
-use upd_subcommands::{carry_out_at, correct_listing, read_first, read_listing};
+use upd_subcommands::{Host, bind, carry_out_at, correct_listing, read_first, read_listing};
 use upd_text::Fault;
 use upd_words::Command;
 
@@ -122,7 +123,12 @@ fn at_desk<St: Start, R: Read, W: Write, E: Write>(
 {
     match open_once(rt, file, start, purpose_of(command)) {
         Ok(library) => {
-            let (ended, files) = with_opened(rt, library, command, text, input, output, faults);
+            let host = Host {
+                alloc: rt.alloc(),
+                clock: rt,
+                bound: bind(rt, command),
+            };
+            let (ended, files) = with_opened(&host, library, command, text, input, output, faults);
             (ended, Some(files))
         }
         Err(fault) => (Err(fault), None),
@@ -130,8 +136,8 @@ fn at_desk<St: Start, R: Read, W: Write, E: Write>(
 }
 
 /// Carries out a command at a desk of a library that was opened either way, and returns the exit status and the files.
-fn with_opened<D: Disk + Drop, R: Read, W: Write, E: Write>(
-    rt: &HostRuntime,
+fn with_opened<C: Clock, D: Disk + Drop, R: Read, W: Write, E: Write>(
+    host: &Host<'_, C>,
     library: Opened<FileStore<D>>,
     command: &Command<'_>,
     text: &[u8],
@@ -151,14 +157,14 @@ fn with_opened<D: Disk + Drop, R: Read, W: Write, E: Write>(
         command.now text.now result.0) }
 {
     match library {
-        Ok(library) => with_trees(rt, library, command, text, input, output, faults),
-        Err(library) => with_files(rt, library, command, text, input, output, faults),
+        Ok(library) => with_trees(host, library, command, text, input, output, faults),
+        Err(library) => with_files(host, library, command, text, input, output, faults),
     }
 }
 
 /// Carries out a command at a desk over the trees of open files, and returns the exit status and the files.
-fn with_trees<D: Disk + Drop, R: Read, W: Write, E: Write>(
-    rt: &HostRuntime,
+fn with_trees<C: Clock, D: Disk + Drop, R: Read, W: Write, E: Write>(
+    host: &Host<'_, C>,
     library: TreeStore<FileStore<D>>,
     command: &Command<'_>,
     text: &[u8],
@@ -172,13 +178,13 @@ fn with_trees<D: Disk + Drop, R: Read, W: Write, E: Write>(
         (λ rows. AreFilesOf result.1 rows.inner.store)
         command.now text.now result.0 }
 {
-    let (ended, library) = with_library(rt, library, true, command, text, input, output, faults);
+    let (ended, library) = with_library(host, library, true, command, text, input, output, faults);
     (ended, library.into_store().close())
 }
 
 /// Carries out a command at the desk of a library in open files, and closes them. Returns the exit status and the files.
-fn with_files<D: Disk + Drop, R: Read, W: Write, E: Write>(
-    rt: &HostRuntime,
+fn with_files<C: Clock, D: Disk + Drop, R: Read, W: Write, E: Write>(
+    host: &Host<'_, C>,
     library: SqlStore<FileStore<D>>,
     command: &Command<'_>,
     text: &[u8],
@@ -192,14 +198,14 @@ fn with_files<D: Disk + Drop, R: Read, W: Write, E: Write>(
         (λ rows. Closes result.1 rows.inner.conn)
         command.now text.now result.0 }
 {
-    let (ended, library) = with_library(rt, library, false, command, text, input, output, faults);
+    let (ended, library) = with_library(host, library, false, command, text, input, output, faults);
     (ended, closed(library.into_connection()))
 }
 
 /// Carries out a command at the desk of a library in any store, and returns the exit status and the store. Below SQL a run is
 /// a repeat.
-fn with_library<S: RowStore, R: Read, W: Write, E: Write>(
-    rt: &HostRuntime,
+fn with_library<C: Clock, S: RowStore, R: Read, W: Write, E: Write>(
+    host: &Host<'_, C>,
     store: S,
     is_below: bool,
     command: &Command<'_>,
@@ -214,9 +220,9 @@ fn with_library<S: RowStore, R: Read, W: Write, E: Write>(
         (λ rows. rows.inner ≡ result.1) command.now text.now result.0 }
 {
     let mut rows = MirrorStore::new(store);
-    begin(rt.alloc(), &mut rows, command, is_below);
+    begin(host.alloc, &mut rows, command, is_below);
     let mut desk = Desk::open(rows);
-    let ended = carry_out_at(rt, &mut desk, command, text, input, output, faults);
+    let ended = carry_out_at(host, &mut desk, command, text, input, output, faults);
     (ended, desk.close().into_inner())
 }
 

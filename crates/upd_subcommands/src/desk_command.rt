@@ -10,16 +10,16 @@ ghost use Rattle.upd_text.specs.declared.fault.Fault.{Fault};
 ghost use Rattle.upd_text.specs.declared.limits.TheConstants.{MAX_RUN_BYTES};
 
 use crate::arriving::{hand_in, hand_in_since, settle, try_run};
+use crate::binding::{Bound, Host};
 use crate::correction_command::correct_text;
 use crate::exit_status::DONE;
 use crate::listening::{report_path, report_place};
-use crate::local_socket::bind_local;
 use crate::parts_command::correct_text_in_parts;
 use crate::queries::answer_query;
 use crate::streams::{read_front, read_input};
 use std::alloc::Global;
 use std::io::{Read, Write};
-use std::net::TcpListener;
+use std::time::Clock;
 use upd_desk::Desk;
 use upd_edit::MAX_TEXT_BYTES;
 use upd_row_store::RowStore;
@@ -50,8 +50,9 @@ pub fn read_first<R: Read>(
 }
 
 /// Carries a command out at a desk, over streams, and returns the exit status. `text` is what was read first.
-pub fn carry_out_at<S: RowStore, R: Read, W: Write, E: Write>(
-    rt: &HostRuntime,
+/// `host` can open no file.
+pub fn carry_out_at<C: Clock, S: RowStore, R: Read, W: Write, E: Write>(
+    host: &Host<'_, C>,
     desk: &mut Desk<S>,
     command: &Command<'_>,
     text: &[u8],
@@ -71,7 +72,7 @@ pub fn carry_out_at<S: RowStore, R: Read, W: Write, E: Write>(
     ensures clean { IfOk result (λ status. status ≡ 0 → ¬ UsesFaults command.now → faults.new ≡ faults.old) }
     ensures quiet { IfErr result (λ _. ¬ UsesFaults command.now → faults.new ≡ faults.old) }
 {
-    let alloc = rt.alloc();
+    let alloc = host.alloc;
     match command {
         Command::Run {
             site,
@@ -86,7 +87,7 @@ pub fn carry_out_at<S: RowStore, R: Read, W: Write, E: Write>(
         },
         Command::Settle { site, number } => settle(alloc, desk, site, *number, output),
         Command::Spool => read_spool(alloc, desk, input, output),
-        Command::Serve { endpoint, count } => serve(rt, endpoint, *count, desk, faults),
+        Command::Serve { endpoint, count } => { serve(host, endpoint, *count, desk, faults) }
         Command::Correct { set } => {
             Ok(correct_text(alloc, desk, None, set, text, output, faults))
         }
@@ -130,10 +131,9 @@ fn read_spool<S: RowStore, R: Read, W: Write>(
 }
 
 /// Serves `count` connections at an endpoint. Where it listens goes to `faults`, and a line for each connection; a
-/// failure of that doesn't end it. Read, at 0, where the endpoint can't be bound; why there is no socket goes to
-/// `faults`.
-fn serve<S: RowStore, E: Write>(
-    rt: &HostRuntime,
+/// failure of that doesn't end it. Read, at 0, where the endpoint isn't bound; why there is no socket goes to `faults`.
+fn serve<C: Clock, S: RowStore, E: Write>(
+    host: &Host<'_, C>,
     endpoint: &Endpoint<'_>,
     count: u32,
     desk: &mut Desk<S>,
@@ -142,22 +142,21 @@ fn serve<S: RowStore, E: Write>(
     ensures { EndsServing S.Meaning endpoint.now count result desk.old.store desk.new.store
         (E.contents faults.old) (E.contents faults.new) }
 {
-    let alloc = rt.alloc();
     match endpoint {
-        Endpoint::Address(address) => match TcpListener::bind(rt, *address) {
-            Ok(listener) => {
-                let _ = report_place(&listener, faults);
-                serve_at(rt, Listener::Tcp(&listener), count, desk, faults)
+        Endpoint::Address(_) => match &host.bound {
+            Bound::Tcp(listener) => {
+                let _ = report_place(listener, faults);
+                serve_at(host, Listener::Tcp(listener), count, desk, faults)
             }
-            Err(_) => Err(FaultKind::Read.without_line()),
+            _ => Err(FaultKind::Read.without_line()),
         },
-        Endpoint::Path(path) => match bind_local(rt, path) {
-            Ok(listener) => {
-                let _ = report_path(alloc, "listening on ", path, "", faults);
-                serve_at(rt, Listener::Unix(&listener), count, desk, faults)
+        Endpoint::Path(path) => match &host.bound {
+            Bound::Unix(listener) => {
+                let _ = report_path(host.alloc, "listening on ", path, "", faults);
+                serve_at(host, Listener::Unix(listener), count, desk, faults)
             }
-            Err(why) => {
-                let _ = report_path(alloc, "no socket at ", path, why, faults);
+            _ => {
+                let _ = report_path(host.alloc, "no socket at ", path, host.bound.why(), faults);
                 Err(FaultKind::Read.without_line())
             }
         },
@@ -165,8 +164,8 @@ fn serve<S: RowStore, E: Write>(
 }
 
 /// Serves `count` connections at a listener. A line for each goes to `faults`.
-fn serve_at<S: RowStore, E: Write>(
-    rt: &HostRuntime,
+fn serve_at<C: Clock, S: RowStore, E: Write>(
+    host: &Host<'_, C>,
     listener: Listener<'_>,
     count: u32,
     desk: &mut Desk<S>,
@@ -178,7 +177,7 @@ fn serve_at<S: RowStore, E: Write>(
     ensures status { IfOk result (λ status. status ≡ 0) }
     ensures err { IfErr result (λ fault. fault ≡ read_failed) }
 {
-    match serve_on_within(rt.alloc(), rt, listener, count, desk, faults) {
+    match serve_on_within(host.alloc, host.clock, listener, count, desk, faults) {
         Ok(_) => Ok(DONE),
         Err(fault) => Err(fault),
     }

@@ -5,6 +5,7 @@
 #![tactic(auto)]
 
 mod arriving;
+mod binding;
 mod correction_command;
 mod desk_command;
 mod exit_status;
@@ -17,6 +18,7 @@ mod queries;
 mod streams;
 mod trial_run;
 
+pub use binding::{Bound, Host, bind};
 pub use desk_command::{carry_out_at, read_first};
 pub use exit_status::{DONE, FAILED, REFUSED, finish, finish_with, report_unread, report_words};
 pub use explaining::carry_out_explaining;

@@ -3,8 +3,8 @@ use Rattle.upd_words.specs.declared.words.Endpoint.{Endpoint}
 use Rattle.upd_subcommands.specs.DeskCommands.{EndsServing}
 use Rattle.upd_subcommands.proofs.desk_command.serve.Goals as goal
 
-pub returns-in-Err : goal.returns-in-Err
-returns-in-Err g c =
+pub returns-in_default : goal.returns-in_default
+returns-in_default g c =
     let faults = g.E.Write.contents c.args.faults.now in
     let none = Appends-nil faults in
     let Ends : Endpoint → Type 0 =
@@ -15,14 +15,14 @@ returns-in-Err g c =
       err = c.without_line.ensures;
     })
 
-pub returns-in-Err-bind_local : goal.returns-in-Err-bind_local
-returns-in-Err-bind_local g c =
-    let fault = c.without_line-in-Err-bind_local.result in
+pub returns-in_default-bound : goal.returns-in_default-bound
+returns-in_default-bound g c =
+    let fault = c.without_line-in_default-bound.result in
     let Ends : Endpoint → Type 0 =
     λ endpoint. EndsServing g.S.Meaning endpoint c.args.count (Err fault) c.args.desk.now.store c.args.desk.now.store
-    (g.E.Write.contents c.args.faults.now) (g.E.Write.contents c.report_path-in-Err-bind_local.new.faults) in
+    (g.E.Write.contents c.args.faults.now) (g.E.Write.contents c.report_path-in_default-bound.new.faults) in
     subst Ends (sym c.in-Path.is) (record {
-      leads = ([], omega arith, tt, refl, inr (refl, (c.in-Err-bind_local.why.now, c.report_path-in-Err-bind_local.ensures)));
+      leads = ([], omega arith, tt, refl, inr (refl, (c.why.result.now, c.report_path-in_default-bound.ensures)));
       status = tt;
-      err = c.without_line-in-Err-bind_local.ensures;
+      err = c.without_line-in_default-bound.ensures;
     })
