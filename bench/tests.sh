@@ -4,7 +4,7 @@
 #     bench/tests.sh [CRATE..]         as bench/tests.sh upd_wire_tests
 #
 # A crate is compiled first, for a minute or more, with nothing to see. Then each test has its line as it ends. A test that `rt` gives up
-# after its 60 seconds is `out of time` and not failed: run it again on a quiet machine. The last line is `N passed, M failed`.
+# after 10 minutes is `out of time` and not failed: run it again on a quiet machine. The last line is `N passed, M failed`.
 #
 # Exit status: 0 no test failed, 1 a test failed, 3 a crate's tests could not be run or a test ran out of time
 set -u
@@ -14,7 +14,7 @@ counts=$(mktemp) && trap 'rm -f "$counts"' EXIT || exit 3
 for crate; do
     began=$(date +%s)
     echo "$crate:"
-    (cd "crates/$crate" && rt try --test 2>&1) | awk -v crate="$crate" -v counts="$counts" '
+    (cd "crates/$crate" && rt try --test --seconds 600 2>&1) | awk -v crate="$crate" -v counts="$counts" '
         function end() {
             if (held == "") return
             if (held ~ /did not end within the time limit/) { sub(/FAILED[^\n]*/, "out of time", held); sub(/\n.*/, "", held); slow++ } else failed++

@@ -1,5 +1,5 @@
 //! Whole command lines over readers and writers in memory.
-use crate::console::{Answer, answers, ask, is_answer};
+use crate::console::{answers, ask, begins, contains, is_answer};
 use std::io;
 use std::io::ErrorKind;
 use std::test::Fail;
@@ -7,60 +7,9 @@ use upd_cli::report_words;
 use upd_testkit::check::same;
 use upd_testkit::fake_streams::{Endless, Pieces};
 
-fn run_words(rt: &HostRuntime, words: &[&str], mut run: &[u8]) -> Result<Answer, Fail> {
-    ask(rt, words, &mut run)
-}
-
 const INSERTION: &str = "*DECK A\nONE\nTWO\nTHREE\n*IDENT X\n*INSERT A.2\nNEW\n";
 
-const INSERTED: &str = "\
-ONE                                                                              A             2
-NEW                                                                              X             1
-TWO                                                                              A             3
-THREE                                                                            A             4
-";
-
 const FULL: &[&str] = &["trial", "full"];
-
-const CYCLE: &str = "*COMDECK C\n*CALL C\n*DECK A\n*CALL C\n";
-
-/// A command line and a run, the exit status, and what is written on the output and on the fault stream.
-type Case = (
-    &'static [&'static str],
-    &'static str,
-    u8,
-    &'static str,
-    &'static str,
-);
-
-fn check(rt: &HostRuntime, cases: &[Case]) -> Result<(), Fail> {
-    for case in cases {
-        is_answered(rt, *case)?;
-    }
-    Ok(())
-}
-
-fn is_answered(rt: &HostRuntime, case: Case) -> Result<(), Fail> {
-    let (words, run, status, output, faults) = case;
-    answers(rt, words, run, (status, output, faults))
-}
-
-#[test]
-fn runs_give_compile_files_or_refusals(rt: HostRuntime) -> Result<(), Fail> {
-    const NORMAL: &[&str] = &["trial", "normal"];
-    const QUICK: &[&str] = &["trial", "quick"];
-    const CASES: &[Case] = &[
-        (FULL, INSERTION, 0, INSERTED, ""),
-        (NORMAL, INSERTION, 0, INSERTED, ""),
-        (QUICK, INSERTION, 0, "", ""),
-        (FULL, "", 0, "", ""),
-        (FULL, "HELLO\n", 1, "", "upd: TextNowhere (9) at 1\n"),
-        (FULL, "*DECK A\nX\x07\n", 1, "", "upd: BadByte (3) at 2\n"),
-        (FULL, CYCLE, 1, "", "upd: CallDepth (21) at 0\n"),
-        (QUICK, CYCLE, 0, "", ""),
-    ];
-    check(&rt, CASES)
-}
 
 #[test]
 fn a_run_that_is_too_long_is_not_read_to_its_end(rt: HostRuntime) -> Result<(), Fail> {
@@ -70,65 +19,20 @@ fn a_run_that_is_too_long_is_not_read_to_its_end(rt: HostRuntime) -> Result<(), 
     same("bytes", input.given, 65_537)
 }
 
-/// The answer if read number `fails_at` of the run fails in this way.
-fn run_failing(rt: &HostRuntime, fails_at: usize, kind: ErrorKind) -> Result<Answer, Fail> {
-    ask(
-        rt,
-        FULL,
-        &mut Pieces::failing(INSERTION.as_bytes(), 1, fails_at, kind),
-    )
+/// A run ends where its read number `fails_at` fails in this way.
+fn ends(rt: &HostRuntime, fails_at: usize, kind: ErrorKind) -> Result<(), Fail> {
+    let mut run = Pieces::failing(INSERTION.as_bytes(), 1, fails_at, kind);
+    is_answer(&ask(rt, FULL, &mut run)?, (3, "", "upd: Read (32) at 0\n"))
 }
 
 /// A read that is out of memory is a failed read as any other.
 #[test]
 fn a_failed_read_ends_the_run(rt: HostRuntime) -> Result<(), Fail> {
     for fails_at in 1..=INSERTION.len() {
-        for kind in [ErrorKind::Other, ErrorKind::OutOfMemory] {
-            let found = run_failing(&rt, fails_at, kind)?;
-            is_answer(&found, (3, "", "upd: Read (32) at 0\n"))?;
-        }
+        ends(&rt, fails_at, ErrorKind::Other)?;
+        ends(&rt, fails_at, ErrorKind::OutOfMemory)?;
     }
     Ok(())
-}
-
-const TRIAL_HELP: &str = "\
-Applies the run on standard input to an empty library and writes its compile file
-
-Usage: upd trial <MODE>
-
-Arguments:
-  <MODE>  full, quick or normal
-
-Options:
-  -h, --help  Print help
-
-Reads a run of at most 65536 bytes and writes the compile file, in lines of 97 bytes. Stores nothing.
-
-Exit status: 0 done; 1 the run is refused; 2 the command line can't be read; 3 out of memory, or a
-read or a write failed. The fault is one line on standard error.
-
-Example:
-  printf '*DECK A\\nONE\\n' | upd trial full
-";
-
-/// Words are answered by a text on the output that begins like this, and by nothing else.
-fn writes(rt: &HostRuntime, words: &[&str], front: &str) -> Result<(), Fail> {
-    let found = run_words(rt, words, b"")?;
-    let begins = found.output.starts_with(front.as_bytes());
-    let is_silent = found.faults.is_empty();
-    same(front, (found.status, is_silent, begins), (0, true, true))
-}
-
-#[test]
-fn words_that_ask_for_a_text_get_it_on_the_output(rt: HostRuntime) -> Result<(), Fail> {
-    const CASES: &[Case] = &[
-        (&["--version"], "", 0, "upd 1.0\n", ""),
-        (&["trial", "--help"], "", 0, TRIAL_HELP, ""),
-    ];
-    check(&rt, CASES)?;
-    let front =
-        "Keeps a library of program source in a file, and changes it by runs from many sites\n";
-    writes(&rt, &["--help"], front)
 }
 
 /// Each command, and how its help begins.
@@ -169,33 +73,66 @@ const ABOUT: &[(&str, &str)] = &[
 #[test]
 fn each_command_has_its_own_help(rt: HostRuntime) -> Result<(), Fail> {
     for (name, front) in ABOUT {
-        writes(&rt, &[*name, "--help"], front)?;
+        let found = ask(&rt, &[*name, "--help"], &mut b"".as_slice())?;
+        begins(&found, (0, *front, ""))?;
     }
     Ok(())
 }
 
 /// `help` and these words write what the words of the option write.
 fn is_help(rt: &HostRuntime, words: &[&str], option: &[&str]) -> Result<(), Fail> {
-    let wanted = run_words(rt, option, b"")?;
+    let wanted = ask(rt, option, &mut b"".as_slice())?;
     let text = std::str::from_utf8(&wanted.output)?;
     answers(rt, words, "", (0, text, ""))
 }
 
 #[test]
 fn help_is_a_command_too(rt: HostRuntime) -> Result<(), Fail> {
-    answers(&rt, &["help", "trial"], "", (0, TRIAL_HELP, ""))?;
     is_help(&rt, &["help"], &["--help"])?;
     for (name, _) in ABOUT {
         is_help(&rt, &["help", *name], &[*name, "--help"])?;
     }
-    complains(
-        &rt,
-        &["help", "nonsense"],
-        "error: unrecognized subcommand 'nonsense'\n",
-    )
+    Ok(())
 }
 
-const NO_MODE: &str = "\
+/// A command line and a run, the exit status, and what is written on the output and on the fault stream.
+type Case = (
+    &'static [&'static str],
+    &'static str,
+    u8,
+    &'static str,
+    &'static str,
+);
+
+#[test]
+fn command_lines_are_answered(rt: HostRuntime) -> Result<(), Fail> {
+    const INSERTED: &str = "\
+ONE                                                                              A             2
+NEW                                                                              X             1
+TWO                                                                              A             3
+THREE                                                                            A             4
+";
+    const CYCLE: &str = "*COMDECK C\n*CALL C\n*DECK A\n*CALL C\n";
+    const TRIAL_HELP: &str = "\
+Applies the run on standard input to an empty library and writes its compile file
+
+Usage: upd trial <MODE>
+
+Arguments:
+  <MODE>  full, quick or normal
+
+Options:
+  -h, --help  Print help
+
+Reads a run of at most 65536 bytes and writes the compile file, in lines of 97 bytes. Stores nothing.
+
+Exit status: 0 done; 1 the run is refused; 2 the command line can't be read; 3 out of memory, or a
+read or a write failed. The fault is one line on standard error.
+
+Example:
+  printf '*DECK A\\nONE\\n' | upd trial full
+";
+    const NO_MODE: &str = "\
 error: the following required arguments were not provided:
   <MODE>
 
@@ -203,16 +140,14 @@ Usage: upd trial <MODE>
 
 For more information, try '--help'.
 ";
-
-const ONE_MORE: &str = "\
+    const ONE_MORE: &str = "\
 error: unexpected argument 'A' found
 
 Usage: upd trial <MODE>
 
 For more information, try '--help'.
 ";
-
-const MISSPELT: &str = "\
+    const MISSPELT: &str = "\
 error: unrecognized subcommand 'trail'
 
   tip: some similar subcommands exist: 'try-at', 'trial'
@@ -221,60 +156,83 @@ Usage: upd <COMMAND>
 
 For more information, try '--help'.
 ";
-
-/// Words are not a command line: the text on the fault stream begins like this.
-fn complains(rt: &HostRuntime, words: &[&str], front: &str) -> Result<(), Fail> {
-    let found = run_words(rt, words, b"")?;
-    let begins = found.faults.starts_with(front.as_bytes());
-    let is_silent = found.output.is_empty();
-    same(front, (found.status, is_silent, begins), (2, true, true))
-}
-
-#[test]
-fn mistakes_are_reported_on_the_fault_stream(rt: HostRuntime) -> Result<(), Fail> {
+    const NORMAL: &[&str] = &["trial", "normal"];
+    const QUICK: &[&str] = &["trial", "quick"];
+    /// Runs give compile files or refusals, words that ask for a text have it on the output, and mistakes are reported
+    /// on the fault stream. Rules 10.20 to 10.22, 10.46 and 10.52.
     const CASES: &[Case] = &[
+        (FULL, INSERTION, 0, INSERTED, ""),
+        (NORMAL, INSERTION, 0, INSERTED, ""),
+        (QUICK, INSERTION, 0, "", ""),
+        (FULL, "", 0, "", ""),
+        (FULL, "HELLO\n", 1, "", "upd: TextNowhere (9) at 1\n"),
+        (FULL, "*DECK A\nX\x07\n", 1, "", "upd: BadByte (3) at 2\n"),
+        (FULL, CYCLE, 1, "", "upd: CallDepth (21) at 0\n"),
+        (QUICK, CYCLE, 0, "", ""),
+        (&["--version"], "", 0, "upd 1.0\n", ""),
+        (&["trial", "--help"], "", 0, TRIAL_HELP, ""),
+        (&["help", "trial"], "", 0, TRIAL_HELP, ""),
         (&["trial"], "", 2, "", NO_MODE),
         (&["trial", "full", "A"], "", 2, "", ONE_MORE),
         (&["trail", "full"], "", 2, "", MISSPELT),
     ];
-    check(&rt, CASES)?;
-    let front = "error: 'upd' requires a subcommand but one was not provided\n";
-    complains(&rt, &[], front)
-}
-
-/// What a command of git gets beside the mistake.
-const HINTS: &[(&str, &str)] = &[
-    ("commit", "\nhint: `upd run` "),
-    ("diff", "\nhint: `upd correct FILE SET` "),
-    ("log", "\nhint: `upd idents FILE` "),
-    ("status", "\nhint: `upd sites FILE` "),
-    ("yank", "\nhint: `*YANK SET` "),
-];
-
-#[test]
-fn commands_of_git_get_a_hint(rt: HostRuntime) -> Result<(), Fail> {
-    for (word, hint) in HINTS {
-        complains(&rt, &[*word], "error: unrecognized subcommand '")?;
-        let found = run_words(&rt, &[*word, "--all"], b"")?;
-        let text = std::str::from_utf8(&found.faults)?;
-        same(*word, (found.status, text.contains(*hint)), (2, true))?;
+    for (words, run, status, output, faults) in CASES {
+        answers(&rt, words, run, (*status, *output, *faults))?;
     }
     Ok(())
 }
 
-/// An error of the words has this status and this line.
-fn is_reported(faults: &mut Vec<u8>, kind: ErrorKind, status: u8, line: &str) -> Result<(), Fail> {
-    faults.clear();
-    let found = report_words(&io::Error::from(kind), faults);
-    same(line, &found, &status)?;
-    same(line, faults.as_slice(), line.as_bytes())
+#[test]
+fn long_answers_begin_as_they_should(rt: HostRuntime) -> Result<(), Fail> {
+    const ABOUT_ALL: &str =
+        "Keeps a library of program source in a file, and changes it by runs from many sites\n";
+    const NONSENSE: &str = "error: unrecognized subcommand 'nonsense'\n";
+    const NO_COMMAND: &str = "error: 'upd' requires a subcommand but one was not provided\n";
+    /// Words without an input, the exit status, and how the text on the output or the fault stream begins.
+    const FRONTS: &[(&[&str], u8, &str, &str)] = &[
+        (&["--help"], 0, ABOUT_ALL, ""),
+        (&["help", "nonsense"], 2, "", NONSENSE),
+        (&[], 2, "", NO_COMMAND),
+    ];
+    for (words, status, output, faults) in FRONTS {
+        let found = ask(&rt, words, &mut b"".as_slice())?;
+        begins(&found, (*status, *output, *faults))?;
+    }
+    Ok(())
+}
+
+#[test]
+fn commands_of_git_get_a_hint(rt: HostRuntime) -> Result<(), Fail> {
+    /// What a command of git gets beside the mistake.
+    const HINTS: &[(&str, &str)] = &[
+        ("commit", "\nhint: `upd run` "),
+        ("diff", "\nhint: `upd correct FILE SET` "),
+        ("log", "\nhint: `upd idents FILE` "),
+        ("status", "\nhint: `upd sites FILE` "),
+        ("yank", "\nhint: `*YANK SET` "),
+    ];
+    for (word, hint) in HINTS {
+        let found = ask(&rt, &[*word], &mut b"".as_slice())?;
+        begins(&found, (2, "", "error: unrecognized subcommand '"))?;
+        let found = ask(&rt, &[*word, "--all"], &mut b"".as_slice())?;
+        contains(&found, (2, "", *hint))?;
+    }
+    Ok(())
 }
 
 #[test]
 fn words_that_cannot_be_read_are_reported(rt: HostRuntime) -> Result<(), Fail> {
-    let mut faults = Vec::new(rt.alloc());
-    let line = "error: the words of the command line can't be read as text\n";
-    is_reported(&mut faults, ErrorKind::InvalidData, 2, line)?;
-    let line = "upd: NoMemory (28) at 0\n";
-    is_reported(&mut faults, ErrorKind::OutOfMemory, 3, line)
+    const UNREADABLE: &str = "error: the words of the command line can't be read as text\n";
+    /// Errors of the words, the exit status and the line of each.
+    const UNREAD: &[(ErrorKind, u8, &str)] = &[
+        (ErrorKind::InvalidData, 2, UNREADABLE),
+        (ErrorKind::OutOfMemory, 3, "upd: NoMemory (28) at 0\n"),
+    ];
+    for (kind, status, line) in UNREAD {
+        let mut faults = Vec::new(rt.alloc());
+        let found = report_words(&io::Error::from(*kind), &mut faults);
+        same(*line, found, *status)?;
+        same(*line, faults.as_slice(), line.as_bytes())?;
+    }
+    Ok(())
 }

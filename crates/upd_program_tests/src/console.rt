@@ -3,7 +3,7 @@ use std::io::Read;
 use std::test::Fail;
 use std::{env, fs, process};
 use upd_cli::run_command;
-use upd_testkit::check::{same, same_text};
+use upd_testkit::check::{holds, same, same_text};
 
 /// A path for a library of this test and process, where no file is.
 pub fn fresh(rt: &HostRuntime, name: &str) -> Result<String, Fail> {
@@ -17,6 +17,11 @@ pub fn fresh(rt: &HostRuntime, name: &str) -> Result<String, Fail> {
 pub fn without_log(rt: &HostRuntime, path: &str) -> Result<(), Fail> {
     let _ = fs::remove_file(rt, format!(in rt.alloc(); "{path}-wal")?.as_str());
     Ok(())
+}
+
+/// No file is at a path.
+pub fn is_gone(rt: &HostRuntime, path: &str) -> Result<(), Fail> {
+    holds(path, !fs::exists(rt, path)?)
 }
 
 /// Removes a library with its log.
@@ -52,6 +57,25 @@ pub fn is_answer(found: &Answer, (status, output, faults): (u8, &str, &str)) -> 
     same("the status", found.status, status)?;
     same_text("the output", std::str::from_utf8(&found.output)?, output)?;
     same_text("the faults", std::str::from_utf8(&found.faults)?, faults)
+}
+
+/// An answer has this exit status. Each stream has a text that begins like this, or nothing where this is empty.
+pub fn begins(found: &Answer, (status, output, faults): (u8, &str, &str)) -> Result<(), Fail> {
+    same((output, faults), found.status, status)?;
+    has_front(&found.output, output)?;
+    has_front(&found.faults, faults)
+}
+
+fn has_front(found: &[u8], front: &str) -> Result<(), Fail> {
+    same(front, found.is_empty(), front.is_empty())?;
+    holds(front, found.starts_with(front.as_bytes()))
+}
+
+/// An answer has this exit status, and each stream has this within it.
+pub fn contains(found: &Answer, (status, output, faults): (u8, &str, &str)) -> Result<(), Fail> {
+    same((output, faults), found.status, status)?;
+    holds(output, std::str::from_utf8(&found.output)?.contains(output))?;
+    holds(faults, std::str::from_utf8(&found.faults)?.contains(faults))
 }
 
 /// A command line over this input has this answer.
@@ -106,10 +130,6 @@ pub fn accepts(
     mode: &str,
     run: &str,
 ) -> Result<(), Fail> {
-    let found = ask(
-        rt,
-        &["run", file, "LYON", number, mode],
-        &mut run.as_bytes(),
-    )?;
+    let found = ask_of(rt, file, "run", &["LYON", number, mode], run)?;
     same("the status of a run", found.status, 0)
 }

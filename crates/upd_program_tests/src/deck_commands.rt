@@ -1,9 +1,9 @@
 //! How a deck is edited: its text, the run that corrects it, what the run would do, and its compile file.
-//! Rules 10.61 to 10.67.
-use crate::console::{accepts, answers, answers_of, ask, ask_of, library, remove};
-use crate::file_sessions::{NO_LIBRARY, Step, Wanted, session};
+//! Rules 10.61 to 10.77.
+use crate::console::{accepts, answers_of, ask, ask_of, begins, contains, library, remove};
+use crate::file_sessions::{NO_LIBRARY, Step, Wanted, session_without_file};
 use std::test::Fail;
-use upd_testkit::check::same;
+use upd_testkit::check::{holds, same};
 
 /// A common deck, a deck that calls it, and a correction of the latter.
 const FIRST: Step<'static> = Step::Accepts(
@@ -14,18 +14,53 @@ const FIRST: Step<'static> = Step::Accepts(
 
 const SECOND: Step<'static> = Step::Accepts("2", "quick", "*IDENT S\n*DELETE A.4\nDEUX\n");
 
-/// The text of deck A after both.
-const TEXT: &str = "*DECK A\nONE\n*CALL C\nDEUX\nTHREE\n";
-
 const IDENTS: &str = "1 C comdeck held\n2 A deck held\n3 S set held\n";
-
-const UNKNOWN: Wanted<'static> = (1, "", "upd: DeckUnknown (12) at 0\n");
 
 const NO_IDENT: Wanted<'static> = (1, "", "upd: IdentUnknown (11) at 0\n");
 
+/// Deck A as it is to be, and a new deck.
+const EDITED: &str = "*DECK A\nUN\n*CALL C\nDEUX\nTHREE\nFOUR\n*DECK B\nNEW\n";
+
 #[test]
-fn the_text_of_a_deck_is_its_active_cards(rt: HostRuntime) -> Result<(), Fail> {
-    const STEPS: &[Step<'_>] = &[
+fn decks_are_edited(rt: HostRuntime) -> Result<(), Fail> {
+    /// The text of deck A before and after the second.
+    const OLD: &str = "*DECK A\nONE\n*CALL C\nTWO\nTHREE\n";
+    const TEXT: &str = "*DECK A\nONE\n*CALL C\nDEUX\nTHREE\n";
+    const UNKNOWN: Wanted<'static> = (1, "", "upd: DeckUnknown (12) at 0\n");
+    /// The compile file of the library, which is the source of deck A.
+    const SOURCE: &str = "\
+ONE                                                                              A             2
+      X = 1                                                                      C             2
+DEUX                                                                             S             1
+THREE                                                                            A             5
+";
+    /// The run that corrects the decks to their texts.
+    const RUN: &str = "*IDENT T\n*DELETE A.2\nUN\n*INSERT A.5\nFOUR\n*DECK B\nNEW\n";
+    /// The old text of deck A with another line, and the run that changes it.
+    const NEW: &str = "*DECK A\nUN\n*CALL C\nTWO\nTHREE\n";
+    const CHANGES: &str = "*IDENT T\n*DELETE A.2\nUN\n";
+    const BAD_NAME: Wanted<'static> = (1, "", "upd: BadName (5) at 0\n");
+    const REFUSED: &str = "AHEAD\n*DECK A\n*/ C\n\x01\n*INSERT A.2\n*DECK  C\n";
+    const REFUSALS: &str = "NameTaken 0:0 this name is in use\n\
+NoDeck 1:1 no deck begins before this line\n\
+Comment 3:1 a run would drop this line as a comment\n\
+BadByte 4:1 a line can't have this byte\n\
+Directive 5:1 a run would carry this line out as a directive\n\
+FirstCard 6:1 the first card of a deck can't be changed\n";
+    const TRIED: &str =
+        "{\"compile\":\"\",\"idents\":[\"T\"],\"lines\":0,\"mode\":\"quick\",\"run\":1,\"site\":\"TRY\",\
+\"state\":\"accepted\"}\n";
+    const NOWHERE: &str =
+        "{\"at\":1,\"fault\":9,\"mode\":\"quick\",\"name\":\"TextNowhere\",\"run\":1,\"site\":\"TRY\",\
+\"state\":\"refused\"}\n";
+    const BAD_MODE: &str = "{\"at\":0,\"fault\":25,\"name\":\"BadMode\"}\n";
+    const GOOD: &str = "*IDENT T\n*DELETE A.2\n";
+    const DELTE: &str = "*IDENT T\n*INSERT A.1\n*DELTE A.2\n";
+    const WARNED: Wanted<'static> = (0, TRIED, "upd: 3: *DELTE is text, not *DELETE\n");
+    const MEETS: &str = "*IDENT T\n*DELETE S.1\n";
+    const MET: Wanted<'static> = (0, TRIED, "upd: 2: S.1 came after A and is deleted\n");
+    const EDITS: &[Step<'_>] = &[
+        Step::New("the text of a deck is its active cards (rule 10.61.1)"),
         FIRST,
         SECOND,
         Step::Writes("text", &["A"], TEXT),
@@ -33,70 +68,34 @@ fn the_text_of_a_deck_is_its_active_cards(rt: HostRuntime) -> Result<(), Fail> {
         Step::Answers("text", &["B"], "", UNKNOWN),
         Step::Answers("text", &["S"], "", UNKNOWN),
         Step::Answers("text", &["YANK$$$"], "", UNKNOWN),
-    ];
-    session(&rt, "text", STEPS)
-}
-
-#[test]
-fn the_text_of_a_deck_adds_it_to_an_empty_library(rt: HostRuntime) -> Result<(), Fail> {
-    const STEPS: &[Step<'_>] = &[
-        Step::Accepts("1", "quick", TEXT),
-        Step::Writes("text", &["A"], TEXT),
-    ];
-    session(&rt, "again", STEPS)
-}
-
-/// The compile file of the library, which is the source of deck A.
-const SOURCE: &str = "\
-ONE                                                                              A             2
-      X = 1                                                                      C             2
-DEUX                                                                             S             1
-THREE                                                                            A             5
-";
-
-#[test]
-fn the_source_of_a_deck_follows_its_calls(rt: HostRuntime) -> Result<(), Fail> {
-    const STEPS: &[Step<'_>] = &[
-        FIRST,
-        SECOND,
+        Step::Shows("the source of a deck follows its calls (rule 10.67)"),
         Step::Writes("source", &["A"], SOURCE),
         Step::Writes("compile", &[], SOURCE),
         Step::Writes("source", &["C"], ""),
         Step::Answers("source", &["B"], "", UNKNOWN),
-    ];
-    session(&rt, "source", STEPS)
-}
-
-/// Deck A as it is to be, and a new deck.
-const EDITED: &str = "*DECK A\nUN\n*CALL C\nDEUX\nTHREE\nFOUR\n*DECK B\nNEW\n";
-
-/// The run that corrects the decks to their texts.
-const RUN: &str = "*IDENT T\n*DELETE A.2\nUN\n*INSERT A.5\nFOUR\n*DECK B\nNEW\n";
-
-/// The run is written, which changes nothing by itself, and is accepted. Then there is nothing to correct.
-#[test]
-fn a_correction_run_leads_decks_to_their_texts(rt: HostRuntime) -> Result<(), Fail> {
-    const STEPS: &[Step<'_>] = &[
-        FIRST,
-        SECOND,
+        Step::Shows("all refusals of a text are reported (rule 10.64)"),
+        Step::Answers("correct", &["S"], REFUSED, (1, "", REFUSALS)),
+        Step::Writes("idents", &[], IDENTS),
+        Step::Shows("a run that is tried is not stored (rule 10.66)"),
+        Step::Answers("try", &["quick"], GOOD, (0, TRIED, "")),
+        Step::Answers("try", &["quick"], GOOD, (0, TRIED, "")),
+        Step::Answers("try", &["quick"], DELTE, WARNED),
+        Step::Answers("try", &["quick"], "HELLO\n", (1, NOWHERE, "")),
+        Step::Answers("try", &["slow"], "HELLO\n", (1, BAD_MODE, "")),
+        Step::Answers("try-at", &["quick", "A"], MEETS, MET),
+        Step::Answers("try-at", &["quick", "Q"], "HELLO\n", NO_IDENT),
+        Step::Writes("idents", &[], IDENTS),
+        Step::Shows("a correction run is written, and changes nothing by itself (rule 10.63.2)"),
         Step::Answers("correct", &["T"], EDITED, (0, RUN, "")),
         Step::Writes("idents", &[], IDENTS),
+        Step::Shows("a correction run leads decks to their texts (rule 10.63.1)"),
         Step::Accepts("3", "quick", RUN),
         Step::Writes("text", &["A"], "*DECK A\nUN\n*CALL C\nDEUX\nTHREE\nFOUR\n"),
         Step::Writes("text", &["B"], "*DECK B\nNEW\n"),
         Step::Answers("correct", &["U"], EDITED, (0, "", "")),
-    ];
-    session(&rt, "correct", STEPS)
-}
-
-/// Deck A was taken before S changed it: what S did stays, and the run T changes the rest.
-#[test]
-fn a_text_that_was_taken_earlier_is_corrected(rt: HostRuntime) -> Result<(), Fail> {
-    const OLD: &str = "*DECK A\nONE\n*CALL C\nTWO\nTHREE\n";
-    const NEW: &str = "*DECK A\nUN\n*CALL C\nTWO\nTHREE\n";
-    const BAD_NAME: Wanted<'_> = (1, "", "upd: BadName (5) at 0\n");
-    const CHANGES: &str = "*IDENT T\n*DELETE A.2\nUN\n";
-    const STEPS: &[Step<'_>] = &[
+        Step::New(
+            "a text that was taken before S is corrected, and what S did stays (rule 10.63.3)",
+        ),
         FIRST,
         SECOND,
         Step::Writes("text-at", &["A", "A"], OLD),
@@ -107,58 +106,70 @@ fn a_text_that_was_taken_earlier_is_corrected(rt: HostRuntime) -> Result<(), Fai
         Step::Answers("correct-at", &["T", "A"], NEW, (0, CHANGES, "")),
         Step::Accepts("3", "quick", CHANGES),
         Step::Writes("text", &["A"], "*DECK A\nUN\n*CALL C\nDEUX\nTHREE\n"),
+        Step::New("the text of a deck adds it to an empty library (rule 10.61.1)"),
+        Step::Accepts("1", "quick", TEXT),
+        Step::Writes("text", &["A"], TEXT),
     ];
-    session(&rt, "earlier", STEPS)
+    session_without_file(&rt, "edited", EDITS)
 }
 
-/// The frame of this run, and what the desk answers it.
-const SPOOL: &str =
-    "RUN LYON 3 quick 54\n*IDENT T1\n*DELETE A.2\nUN\n*INSERT A.5\nFOUR\n*DECK B\nNEW\n\n";
+const PARTS: &str = "correct-parts";
 
-const SPOOLED: &str =
-    "{\"compile\":\"\",\"idents\":[\"T1\",\"B\"],\"lines\":0,\"mode\":\"quick\",\"run\":3,\"site\":\"LYON\",\
-\"state\":\"accepted\"}\n";
+const LAST: &[&str] = &["T", "LYON", "999999999", "quick"];
 
 #[test]
-fn a_spool_leads_decks_to_their_texts(rt: HostRuntime) -> Result<(), Fail> {
-    const BAD_NUMBER: Wanted<'_> = (1, "", "upd: BadNumber (24) at 0\n");
-    const BAD_SITE: Wanted<'_> = (1, "", "upd: BadSite (23) at 0\n");
-    const BAD_WORD: Wanted<'_> = (1, "", "upd: BadMode (25) at 0\n");
-    const LONG_NAME: Wanted<'_> = (
+fn decks_are_edited_in_parts(rt: HostRuntime) -> Result<(), Fail> {
+    /// The frame of this run, and what the desk answers it.
+    const SPOOL: &str =
+        "RUN LYON 3 quick 54\n*IDENT T1\n*DELETE A.2\nUN\n*INSERT A.5\nFOUR\n*DECK B\nNEW\n\n";
+    const SPOOLED: &str =
+        "{\"compile\":\"\",\"idents\":[\"T1\",\"B\"],\"lines\":0,\"mode\":\"quick\",\"run\":3,\"site\":\"LYON\",\
+\"state\":\"accepted\"}\n";
+    const BAD_NUMBER: Wanted<'static> = (1, "", "upd: BadNumber (24) at 0\n");
+    const BAD_SITE: Wanted<'static> = (1, "", "upd: BadSite (23) at 0\n");
+    const BAD_WORD: Wanted<'static> = (1, "", "upd: BadMode (25) at 0\n");
+    const LONG_NAME: Wanted<'static> = (
         1,
         "",
         "BadName 0:0 the name of the sets has at most 8 bytes, since a number follows it\n",
     );
-    const SETTLED: Wanted<'_> = (1, "", "NumberUsed 0:0 number 1 is used or settled\n");
-    const USED: Wanted<'_> = (1, "", "NumberUsed 0:0 number 2 is used or settled\n");
-    const PARTS: &str = "correct-parts";
-    const STEPS: &[Step<'_>] = &[
+    const SETTLED: Wanted<'static> = (1, "", "NumberUsed 0:0 number 1 is used or settled\n");
+    const USED: Wanted<'static> = (1, "", "NumberUsed 0:0 number 2 is used or settled\n");
+    const SEVENTH_USED: Wanted<'static> = (1, "", "NumberUsed 0:0 number 7 is used or settled\n");
+    const THIRD: &[&str] = &["T", "LYON", "3", "quick"];
+    const FIFTH: &[&str] = &["T", "LYON", "5", "quick"];
+    const LONG: &[&str] = &["ABCDEFGHI", "LYON", "3", "quick"];
+    const EDITS_IN_PARTS: &[Step<'_>] = &[
+        Step::New("a spool leads decks to their texts (rule 10.63.5)"),
         FIRST,
         SECOND,
         Step::Answers(PARTS, &["T", "LYON", "0", "quick"], EDITED, BAD_NUMBER),
         Step::Answers(PARTS, &["T", "lyon", "3", "quick"], EDITED, BAD_SITE),
         Step::Answers(PARTS, &["T", "lyon", "3", "quick"], "", BAD_SITE),
         Step::Answers(PARTS, &["T", "LYON", "3", "slow"], EDITED, BAD_WORD),
-        Step::Answers(
-            PARTS,
-            &["ABCDEFGHI", "LYON", "3", "quick"],
-            EDITED,
-            LONG_NAME,
-        ),
-        Step::Writes(
-            "settle",
-            &["LYON", "1"],
-            "{\"settled\":1,\"site\":\"LYON\"}\n",
-        ),
+        Step::Answers(PARTS, LONG, EDITED, LONG_NAME),
+        Step::Settles("LYON", "1", "1"),
         Step::Answers(PARTS, &["T", "LYON", "1", "quick"], EDITED, SETTLED),
         Step::Answers(PARTS, &["T", "LYON", "2", "quick"], EDITED, USED),
         Step::Answers(PARTS, &["T", "LYON", "2", "slow"], EDITED, BAD_WORD),
-        Step::Answers(PARTS, &["T", "LYON", "3", "quick"], EDITED, (0, SPOOL, "")),
+        Step::Answers(PARTS, THIRD, EDITED, (0, SPOOL, "")),
         Step::Writes("idents", &[], IDENTS),
         Step::Answers("spool", &[], SPOOL, (0, SPOOLED, "")),
         Step::Answers(PARTS, &["U", "LYON", "3", "quick"], EDITED, (0, "", "")),
+        Step::New("no frame is numbered past the greatest (rule 10.63.7)"),
+        Step::AnswersLong(PARTS, LAST, ("*DECK B\n", "NEW\n", 2_100), BAD_NUMBER),
+        Step::Shows("a text in three parts gets no number that is used (rule 10.63.7)"),
+        Step::Accepts("7", "quick", "*/ used\n"),
+        Step::AnswersLong(PARTS, FIFTH, ("*DECK B\n", "NEW\n", 4_100), SEVENTH_USED),
+        Step::New("rows that can't be read are Store, whatever meets them (rule 11.1)"),
+        FIRST,
+        Step::Changes("UPDATE cards SET deck = -1"),
+        Step::Answers(PARTS, THIRD, EDITED, NO_LIBRARY),
+        Step::Answers("correct", &["T"], EDITED, NO_LIBRARY),
+        Step::Answers("list", &["A"], "", NO_LIBRARY),
+        Step::Answers("compile", &[], "", NO_LIBRARY),
     ];
-    session(&rt, "parts", STEPS)
+    session_without_file(&rt, "parts", EDITS_IN_PARTS)
 }
 
 /// A run may have 65,536 bytes and the number 999,999,999: its frame has both.
@@ -168,234 +179,89 @@ fn a_part_may_be_the_greatest(rt: HostRuntime) -> Result<(), Fail> {
     let lines = format!(in alloc; "{}\n", "X".repeat(alloc, 80)?.as_str())?.repeat(alloc, 808)?;
     let text = format!(in alloc; "*DECK B\n{lines}{}\n", "X".repeat(alloc, 69)?.as_str())?;
     let frame = format!(in alloc; "RUN LYON 999999999 quick 65536\n*IDENT T1\n{text}\n")?;
-    let words = ["T", "LYON", "999999999", "quick"];
-    answers_of(&rt, &file, "correct-parts", &words, &text, (0, &frame, ""))?;
+    answers_of(&rt, &file, PARTS, LAST, &text, (0, &frame, ""))?;
     remove(&rt, &file)
 }
 
-/// Rows that can't be read are a failure of the store, whatever edit or question meets them.
-#[test]
-fn rows_that_cant_be_read_are_a_store_that_failed(rt: HostRuntime) -> Result<(), Fail> {
-    const STEPS: &[Step<'_>] = &[
-        FIRST,
-        Step::Changes("UPDATE cards SET deck = -1"),
-        Step::Answers(
-            "correct-parts",
-            &["T", "LYON", "3", "quick"],
-            EDITED,
-            NO_LIBRARY,
-        ),
-        Step::Answers("correct", &["T"], EDITED, NO_LIBRARY),
-        Step::Answers("list", &["A"], "", NO_LIBRARY),
-        Step::Answers("compile", &[], "", NO_LIBRARY),
-    ];
-    session(&rt, "unreadable", STEPS)
-}
-
-#[test]
-fn no_frame_is_numbered_past_the_greatest(rt: HostRuntime) -> Result<(), Fail> {
-    let file = library(&rt, "numbers")?;
-    let mut text = String::from_str(rt.alloc(), "*DECK B\n")?;
-    for _ in 0..2_100 {
-        text.push_str("NEW\n")?;
-    }
-    let words = [
-        "correct-parts",
-        file.as_str(),
-        "T",
-        "LYON",
-        "999999999",
-        "quick",
-    ];
-    answers(
-        &rt,
-        &words,
-        text.as_str(),
-        (1, "", "upd: BadNumber (24) at 0\n"),
-    )?;
-    remove(&rt, &file)
-}
-
-/// A text in three parts gets no number that is used, and then three that are free.
+/// Number 7 is used. The last of three frames after it is there.
 #[test]
 fn the_numbers_of_all_parts_are_free(rt: HostRuntime) -> Result<(), Fail> {
-    const USED: Wanted<'_> = (1, "", "NumberUsed 0:0 number 7 is used or settled\n");
     let (alloc, file) = (rt.alloc(), library(&rt, "used")?);
     let text = format!(in alloc; "*DECK B\n{}", "NEW\n".repeat(alloc, 4_100)?.as_str())?;
     accepts(&rt, &file, "7", "quick", "*/ used\n")?;
-    let words = ["T", "LYON", "5", "quick"];
-    answers_of(&rt, &file, "correct-parts", &words, &text, USED)?;
-    let words = ["T", "LYON", "8", "quick"];
-    let found = ask_of(&rt, &file, "correct-parts", &words, &text)?;
-    same("the status", found.status, 0)?;
-    let is_whole = std::str::from_utf8(&found.output)?.contains("\nRUN LYON 10 quick ");
-    same("the last frame is there", is_whole, true)?;
+    let found = ask_of(&rt, &file, PARTS, &["T", "LYON", "8", "quick"], &text)?;
+    contains(&found, (0, "\nRUN LYON 10 quick ", ""))?;
     remove(&rt, &file)
 }
 
-const REFUSED: &str = "AHEAD\n*DECK A\n*/ C\n\x01\n*INSERT A.2\n*DECK  C\n";
-
-const REFUSALS: &str = "NameTaken 0:0 this name is in use\n\
-NoDeck 1:1 no deck begins before this line\n\
-Comment 3:1 a run would drop this line as a comment\n\
-BadByte 4:1 a line can't have this byte\n\
-Directive 5:1 a run would carry this line out as a directive\n\
-FirstCard 6:1 the first card of a deck can't be changed\n";
-
 #[test]
-fn all_refusals_of_a_text_are_reported(rt: HostRuntime) -> Result<(), Fail> {
-    const STEPS: &[Step<'_>] = &[
-        FIRST,
-        SECOND,
-        Step::Answers("correct", &["S"], REFUSED, (1, "", REFUSALS)),
-        Step::Writes("idents", &[], IDENTS),
-    ];
-    session(&rt, "refusals", STEPS)
-}
-
-const TRIED: &str =
-    "{\"compile\":\"\",\"idents\":[\"T\"],\"lines\":0,\"mode\":\"quick\",\"run\":1,\"site\":\"TRY\",\
-\"state\":\"accepted\"}\n";
-
-const NOWHERE: &str =
-    "{\"at\":1,\"fault\":9,\"mode\":\"quick\",\"name\":\"TextNowhere\",\"run\":1,\"site\":\"TRY\",\
-\"state\":\"refused\"}\n";
-
-const BAD_MODE: &str = "{\"at\":0,\"fault\":25,\"name\":\"BadMode\"}\n";
-
-#[test]
-fn a_run_that_is_tried_is_not_stored(rt: HostRuntime) -> Result<(), Fail> {
-    const GOOD: Step<'_> = Step::Answers(
-        "try",
-        &["quick"],
-        "*IDENT T\n*DELETE A.2\n",
-        (0, TRIED, ""),
-    );
-    const WARNED: Wanted<'_> = (0, TRIED, "upd: 3: *DELTE is text, not *DELETE\n");
-    const STEPS: &[Step<'_>] = &[
-        FIRST,
-        SECOND,
-        GOOD,
-        GOOD,
-        Step::Answers(
-            "try",
-            &["quick"],
-            "*IDENT T\n*INSERT A.1\n*DELTE A.2\n",
-            WARNED,
-        ),
-        Step::Answers("try", &["quick"], "HELLO\n", (1, NOWHERE, "")),
-        Step::Answers("try", &["slow"], "HELLO\n", (1, BAD_MODE, "")),
-        Step::Answers(
-            "try-at",
-            &["quick", "A"],
-            "*IDENT T\n*DELETE S.1\n",
-            (0, TRIED, "upd: 2: S.1 came after A and is deleted\n"),
-        ),
-        Step::Answers("try-at", &["quick", "Q"], "HELLO\n", NO_IDENT),
-        Step::Writes("idents", &[], IDENTS),
-    ];
-    session(&rt, "tried", STEPS)
-}
-
-const BLAME: &str = "\
+fn libraries_are_looked_at(rt: HostRuntime) -> Result<(), Fail> {
+    const BLAME: &str = "\
 A A.1               A           *DECK A
 I A.2               X           ONE
 A X.1               X           NEW
 A A.3               A           TWO
 A A.4               A           THREE
 ";
-
-const REPORT: &str = "IDENT X set\nYANKED Y.1 set X\nDECK A\noff A.2 ONE\nI X.1 NEW\n";
-
-#[test]
-fn a_library_is_looked_at(rt: HostRuntime) -> Result<(), Fail> {
-    const STEPS: &[Step<'_>] = &[
+    const REPORT: &str = "IDENT X set\nYANKED Y.1 set X\nDECK A\noff A.2 ONE\nI X.1 NEW\n";
+    /// What Y did, and the run that introduced it.
+    const INTRODUCED: &str =
+        "IDENT Y set\nDECK YANK$$$\nA Y.1 *YANK X\n set X\nRUN LYON 3 normal # take it back\n";
+    const LOOKS: &[Step<'_>] = &[
+        Step::New("a library is looked at (rules 10.70 and 10.73)"),
         Step::Accepts("1", "quick", "*DECK A\nONE\nTWO\nTHREE\n"),
         Step::Accepts("2", "quick", "*IDENT X\n*DELETE A.2\nNEW\n"),
         Step::Writes("blame", &["A"], BLAME),
         Step::Accepts("3", "quick", "*IDENT Y\n*YANK X\n"),
         Step::Writes("show", &["X"], REPORT),
         Step::Answers("show", &["Q"], "", NO_IDENT),
-    ];
-    session(&rt, "look", STEPS)
-}
-
-/// What Y did, and the run that introduced it.
-const INTRODUCED: Step<'static> = Step::Writes(
-    "show",
-    &["Y"],
-    "IDENT Y set\nDECK YANK$$$\nA Y.1 *YANK X\n set X\nRUN LYON 3 normal # take it back\n",
-);
-
-/// Y comes again: its run is known as long as the runs of both are stored.
-#[test]
-fn the_message_of_a_run_is_shown_while_the_run_is_stored(rt: HostRuntime) -> Result<(), Fail> {
-    const STEPS: &[Step<'_>] = &[
+        Step::New(
+            "a run's message is shown while the runs of all idents of a name are stored (rule 10.73)",
+        ),
         Step::Accepts("1", "quick", "*/begin\n*DECK A\nONE\n"),
         Step::Accepts("2", "quick", "*IDENT X\n*DELETE A.2\n*/ second\n"),
         Step::Writes("show", &["X"], "IDENT X set\nDECK A\noff A.2 ONE\n"),
         Step::Accepts("3", "normal", "*/ take it back\n*IDENT Y\n*YANK X\n"),
-        INTRODUCED,
+        Step::Writes("show", &["Y"], INTRODUCED),
         Step::Accepts("4", "quick", "*/ purged\n*PURGE Y\n"),
         Step::Answers("show", &["Y"], "", NO_IDENT),
         Step::Accepts("5", "quick", "*/ again\n*IDENT Y\n"),
         Step::Writes("show", &["Y"], "IDENT Y set\nRUN LYON 5 quick # again\n"),
-        Step::Writes(
-            "settle",
-            &["LYON", "3"],
-            "{\"settled\":3,\"site\":\"LYON\"}\n",
-        ),
+        Step::Settles("LYON", "3", "3"),
         Step::Writes("show", &["Y"], "IDENT Y set\n"),
     ];
-    session(&rt, "message", STEPS)
+    session_without_file(&rt, "look", LOOKS)
 }
 
-/// The page of a library begins and ends as HTML does, and has this text.
-fn is_page(rt: &HostRuntime, file: &str, text: &str) -> Result<(), Fail> {
-    let page = ask(rt, &["page", file], &mut b"".as_slice())?;
-    let html = std::str::from_utf8(&page.output)?;
-    let (begins, ends) = (
-        html.starts_with("<!DOCTYPE html>\n"),
-        html.ends_with("</html>\n"),
-    );
-    let found = (page.status, begins, html.contains(text), ends);
-    same("status, beginning, text, end", found, (0, true, true, true))
-}
-
+/// The page of a library begins and ends as HTML does.
 #[test]
 fn the_page_of_a_library_has_its_texts_escaped(rt: HostRuntime) -> Result<(), Fail> {
     let file = library(&rt, "page")?;
     accepts(&rt, &file, "1", "quick", "*DECK B\n<b>&\n")?;
-    is_page(&rt, &file, "&lt;b&gt;&amp;")?;
+    let page = ask_of(&rt, &file, "page", &[], "")?;
+    begins(&page, (0, "<!DOCTYPE html>\n", ""))?;
+    contains(&page, (0, "&lt;b&gt;&amp;", ""))?;
+    holds("the end", page.output.ends_with(b"</html>\n"))?;
     remove(&rt, &file)
-}
-
-/// What is said of a fault begins like this.
-fn is_explained(rt: &HostRuntime, word: &str, start: &str) -> Result<(), Fail> {
-    let found = ask(rt, &["explain", word], &mut b"".as_slice())?;
-    let begins = found.output.starts_with(start.as_bytes());
-    same(word, (found.status, begins), (0, true))
 }
 
 /// What names no fault is answered by BadName, and a line for each fault.
 fn is_not_explained(rt: &HostRuntime, word: &str) -> Result<(), Fail> {
     let found = ask(rt, &["explain", word], &mut b"".as_slice())?;
-    let faults = std::str::from_utf8(&found.faults)?;
-    let begins = faults.starts_with("upd: BadName (5) at 0\n1 RunLong\n2 TooManyLines\n");
-    let ends = faults.ends_with("\n32 Read\n33 Write\n");
+    begins(
+        &found,
+        (1, "", "upd: BadName (5) at 0\n1 RunLong\n2 TooManyLines\n"),
+    )?;
+    holds(word, found.faults.ends_with(b"\n32 Read\n33 Write\n"))?;
     let count = found.faults.iter().filter(|b| **b == b'\n').count();
-    let silent = found.output.is_empty();
-    same(
-        word,
-        (found.status, silent, begins, ends, count),
-        (1, true, true, true, 34),
-    )
+    same("the lines", count, 34)
 }
 
 #[test]
 fn a_fault_is_explained(rt: HostRuntime) -> Result<(), Fail> {
     for word in ["Settled", "settled", "SETTLED", "27"] {
-        is_explained(&rt, word, "Settled (27): ")?;
+        let found = ask(&rt, &["explain", word], &mut b"".as_slice())?;
+        begins(&found, (0, "Settled (27): ", ""))?;
     }
     for word in ["settle", "34", "027", ""] {
         is_not_explained(&rt, word)?;

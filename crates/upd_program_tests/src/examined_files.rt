@@ -1,66 +1,172 @@
-//! What is said of a path that is examined, whatever is there. Rules 10.87 and 10.88.
-use crate::console::{accepts, fresh, library, remove};
-use crate::file_sessions::{SILENT, Step, Wanted, session, session_without_file, take_all};
+//! What is said of a path that is examined, whatever is there. Rules 10.87 to 10.91.
+use crate::console::{fresh, is_gone, library, remove};
+use crate::file_sessions::{SILENT, Step, session_without_file, stays, take_all};
+use crate::lone_logs::logged;
 use crate::site_commands::{NO_MARKS, SECOND_SCHEMA};
 use std::fs;
 use std::os::unix::fs::symlink;
 use std::test::Fail;
 use upd_keep::Situation;
-use upd_testkit::check::holds;
 
 const EMPTY_LINE: &str = "sound: decks 0, cards 0, runs 0, replies 0";
+
+const IS_EMPTY: Step<'static> = Step::IsSound(EMPTY_LINE, false);
+
+const LOGGED: Step<'static> = Step::Logs("INSERT INTO settled (site, mark) VALUES ('LYON', 3)");
 
 const ONE_CARD: Step<'static> = Step::Accepts("1", "full", "*DECK A\nONE\n");
 
 #[test]
-fn a_sound_library_is_counted(rt: HostRuntime) -> Result<(), Fail> {
-    const STEPS: &[Step<'_>] = &[
-        Step::IsSound(EMPTY_LINE, false),
+fn libraries_are_examined(rt: HostRuntime) -> Result<(), Fail> {
+    const LOG_LINES: &str = "\
+log: keep FILE-wal with the file, it may have commits that the file lacks
+sound: decks 0, cards 0, runs 0, replies 0";
+    const STATUS_LINES: &str = "\
+states A.2 (active) is not stored, and the library has it
+states A.2 (not active) is stored, and the library does not have it
+";
+    const MARK_ONE: &str = "INSERT INTO settled (site, mark) VALUES ('LYON', 1)";
+    const MARK_LINE: &str = "runs LYON 1 is at or below the mark 1\n";
+    const LOGGED_LINES: &str = "\
+log: keep FILE-wal with the file, it may have commits that the file lacks
+runs LYON 1 is at or below the mark 1
+";
+    /// What is found in libraries, and what the command writes of it.
+    const LIBRARIES: &[Step<'_>] = &[
+        Step::New("a sound library is counted (rule 10.89.2)"),
+        IS_EMPTY,
         Step::Accepts("1", "full", "*DECK A\nONE\n*IDENT X\n*INSERT A.1\nTWO\n"),
         Step::Accepts("2", "full", "*COMDECK B\nONE\n"),
         Step::IsSound("sound: decks 2, cards 5, runs 2, replies 584", false),
+        Step::New("a log with commits is reported and kept (rule 10.91)"),
+        LOGGED,
+        Step::IsSound(EMPTY_LINE, true),
+        Step::IsSound(EMPTY_LINE, true),
+        Step::New("the command reports a log (rule 10.91)"),
+        LOGGED,
+        Step::Examines(LOG_LINES),
+        Step::New("a status changed by hand is found (rule 10.90)"),
+        ONE_CARD,
+        Step::Changes("UPDATE states SET active = 0 WHERE num = 2"),
+        Step::IsUnsound(STATUS_LINES),
+        Step::New("the command reports findings (rule 10.90)"),
+        ONE_CARD,
+        Step::Changes(MARK_ONE),
+        Step::Answers("examine", &[], "", (1, "", MARK_LINE)),
+        Step::New("findings follow the line of a log (rule 10.91)"),
+        ONE_CARD,
+        Step::Logs(MARK_ONE),
+        Step::Answers("examine", &[], "", (1, "", LOGGED_LINES)),
     ];
-    session(&rt, "sound", STEPS)
+    session_without_file(&rt, "examined-libraries", LIBRARIES)
+}
+
+#[test]
+fn other_files_are_named(rt: HostRuntime) -> Result<(), Fail> {
+    const NO_FILE_LINE: &str =
+        "upd: there is no such file: check the path; `upd init` makes a library\n";
+    const OLDER_LINE: &str = "upd: a library of an older schema: copy it, then `upd migrate`\n";
+    const UNREADABLE_LINE: &str =
+        "upd: a library with a row that upd can't read, or a damaged one: restore a backup\n";
+    /// A database with none of a library's tables.
+    const OTHER: &str =
+        "DROP TABLE meta; DROP TABLE idents; DROP TABLE cards; DROP TABLE entries; DROP TABLE targets; \
+DROP TABLE states; DROP TABLE counts; DROP TABLE runs; DROP TABLE settled; \
+CREATE TABLE note (id INTEGER PRIMARY KEY) STRICT";
+    /// Files that are no library of the current schema.
+    const OTHERS: &[Step<'_>] = &[
+        Step::NoFile("the command writes what was found (rule 10.88)"),
+        Step::Answers("examine", &[], "", (3, "", NO_FILE_LINE)),
+        Step::Answers("init", &[], "", SILENT),
+        Step::Examines(EMPTY_LINE),
+        Step::NoFile("what is no database is named (rule 10.88)"),
+        Step::File("an empty file", b""),
+        Step::Is(Situation::Empty),
+        Step::File("a short text", b"*DECK A\n"),
+        Step::Is(Situation::NotSqlite),
+        Step::File("a long text", b"*DECK A\nLONGER THAN A HEADER\n"),
+        Step::Is(Situation::NotSqlite),
+        Step::New("schemas are distinguished (rule 10.88)"),
+        Step::Changes("UPDATE meta SET v = 12"),
+        Step::Answers("idents", &[], "", (3, "", "upd: Store (29) at 12\n")),
+        Step::Answers("migrate", &[], "", (3, "", "upd: Store (29) at 12\n")),
+        Step::Is(Situation::NewerSchema),
+        Step::Changes("UPDATE meta SET v = 3"),
+        IS_EMPTY,
+        Step::Changes("CREATE TABLE other (k INTEGER PRIMARY KEY) STRICT"),
+        Step::Is(Situation::OtherTables),
+        Step::New("an older schema is named (rule 10.88)"),
+        NO_MARKS,
+        SECOND_SCHEMA,
+        Step::Is(Situation::OlderSchema),
+        Step::Answers("examine", &[], "", (3, "", OLDER_LINE)),
+        Step::New("a row beside the version is found (rule 10.88)"),
+        Step::Changes("INSERT INTO meta (k, v) VALUES ('x', 1)"),
+        Step::Is(Situation::Unreadable),
+        Step::Answers("examine", &[], "", (3, "", UNREADABLE_LINE)),
+        Step::Changes("DELETE FROM meta WHERE k = 'x'"),
+        IS_EMPTY,
+        Step::New("a version that is only in the log is found (rule 10.91)"),
+        Step::Logs("UPDATE meta SET v = 12"),
+        Step::Is(Situation::NewerSchema),
+        Step::New("another database is named (rule 10.88)"),
+        Step::Changes(OTHER),
+        Step::Is(Situation::NotLibrary),
+    ];
+    session_without_file(&rt, "examined-others", OTHERS)?;
+    take_all(&rt, "/dev/null", &[Step::Is(Situation::NotRegular)])
 }
 
 #[test]
 fn an_examination_changes_no_byte(rt: HostRuntime) -> Result<(), Fail> {
+    const SOUND: Step<'_> = Step::IsSound("sound: decks 1, cards 2, runs 1, replies 192", false);
     let file = library(&rt, "untouched")?;
-    accepts(&rt, &file, "1", "full", "*DECK A\nONE\n")?;
-    stays(
-        &rt,
-        &file,
-        Step::IsSound("sound: decks 1, cards 2, runs 1, replies 192", false),
-    )?;
+    take_all(&rt, &file, &[ONE_CARD])?;
+    stays(&rt, &file, &[SOUND])?;
     remove(&rt, &file)
 }
 
-/// A step changes no byte of the file.
-fn stays(rt: &HostRuntime, file: &str, step: Step<'_>) -> Result<(), Fail> {
-    let before = fs::read(rt, file)?;
-    take_all(rt, file, &[step])?;
-    holds("the same bytes", fs::read(rt, file)? == before)
-}
-
-const LOGGED: Step<'static> = Step::Logs("INSERT INTO settled (site, mark) VALUES ('LYON', 3)");
-
+/// The size, the log and the first bytes are those of the file, and not of a link to it. Rule 10.88.
 #[test]
-fn a_log_with_commits_is_reported_and_kept(rt: HostRuntime) -> Result<(), Fail> {
+fn a_file_is_examined_by_a_link(rt: HostRuntime) -> Result<(), Fail> {
     const STEPS: &[Step<'_>] = &[
+        IS_EMPTY,
         LOGGED,
         Step::IsSound(EMPTY_LINE, true),
-        Step::IsSound(EMPTY_LINE, true),
+        Step::File("a text beside a log with commits", b"*DECK A\n"),
+        Step::Is(Situation::NotSqlite),
+        Step::File("an empty file beside a log with commits", b""),
+        Step::Is(Situation::LogAlone),
     ];
-    session(&rt, "framed", STEPS)
-}
-
-/// The size is that of the file, and not of a link to it.
-#[test]
-fn a_library_is_examined_by_a_link(rt: HostRuntime) -> Result<(), Fail> {
     let (file, link) = (library(&rt, "pointed-at")?, fresh(&rt, "pointer")?);
     symlink(&rt, file.as_str(), link.as_str())?;
-    take_all(&rt, &link, &[Step::IsSound(EMPTY_LINE, false)])?;
+    take_all(&rt, &link, STEPS)?;
     fs::remove_file(&rt, link.as_str())?;
+    remove(&rt, &file)
+}
+
+/// A second name is named before what the file holds, and after a log whose file is empty. Rule 10.88.
+#[test]
+fn a_second_name_is_named(rt: HostRuntime) -> Result<(), Fail> {
+    const LINE: &str =
+        "upd: the file has a second name, a hard link: remove that name, or make it a copy\n";
+    const STEPS: &[Step<'_>] = &[
+        Step::Answers("examine", &[], "", (3, "", LINE)),
+        Step::File("a text with a second name", b"*DECK A\n"),
+        Step::Is(Situation::SecondName),
+        Step::File(
+            "an empty file with a second name beside a log with commits",
+            b"",
+        ),
+        Step::Is(Situation::LogAlone),
+        Step::LosesLog,
+        Step::Is(Situation::SecondName),
+    ];
+    let (file, name) = (logged(&rt, "bound")?, fresh(&rt, "bound-too")?);
+    fs::hard_link(&rt, file.as_str(), name.as_str())?;
+    take_all(&rt, &file, STEPS)?;
+    remove(&rt, &name)?;
+    take_all(&rt, &file, &[Step::Is(Situation::Empty)])?;
     remove(&rt, &file)
 }
 
@@ -71,84 +177,10 @@ fn a_path_without_a_file_is_named(rt: HostRuntime) -> Result<(), Fail> {
     take_all(&rt, &file, &[Step::Is(Situation::NoFile)])?;
     let below = format!(in rt.alloc(); "{file}/a.db")?;
     take_all(&rt, &below, &[Step::Is(Situation::NoFile)])?;
-    holds("no file is made", fs::metadata(&rt, file.as_str()).is_err())?;
+    is_gone(&rt, &file)?;
     fs::create_dir(&rt, file.as_str())?;
     take_all(&rt, &file, &[Step::Is(Situation::Folder)])?;
     Ok(fs::remove_dir(&rt, file.as_str())?)
-}
-
-/// Bytes of files, and what they are.
-const NO_DATABASES: &[(&[u8], Situation)] = &[
-    (b"", Situation::Empty),
-    (b"*DECK A\n", Situation::NotSqlite),
-    (b"*DECK A\nLONGER THAN A HEADER\n", Situation::NotSqlite),
-];
-
-#[test]
-fn what_is_no_database_is_named(rt: HostRuntime) -> Result<(), Fail> {
-    let file = fresh(&rt, "other")?;
-    for (bytes, situation) in NO_DATABASES {
-        fs::write(&rt, file.as_str(), *bytes)?;
-        take_all(&rt, &file, &[Step::Is(*situation)])?;
-    }
-    take_all(&rt, "/dev/null", &[Step::Is(Situation::NotRegular)])?;
-    remove(&rt, &file)
-}
-
-#[test]
-fn schemas_are_distinguished(rt: HostRuntime) -> Result<(), Fail> {
-    const TWELFTH: Wanted<'_> = (3, "", "upd: Store (29) at 12\n");
-    const STEPS: &[Step<'_>] = &[
-        Step::Changes("UPDATE meta SET v = 12"),
-        Step::Answers("idents", &[], "", TWELFTH),
-        Step::Answers("migrate", &[], "", TWELFTH),
-        Step::Is(Situation::NewerSchema),
-        Step::Changes("UPDATE meta SET v = 3"),
-        Step::IsSound(EMPTY_LINE, false),
-        Step::Changes("CREATE TABLE other (k INTEGER PRIMARY KEY) STRICT"),
-        Step::Is(Situation::OtherTables),
-    ];
-    session(&rt, "schemas", STEPS)
-}
-
-#[test]
-fn an_older_schema_is_named(rt: HostRuntime) -> Result<(), Fail> {
-    const OLDER: Wanted<'_> = (
-        3,
-        "",
-        "upd: a library of an older schema: copy it, then `upd migrate`\n",
-    );
-    const STEPS: &[Step<'_>] = &[
-        NO_MARKS,
-        SECOND_SCHEMA,
-        Step::Is(Situation::OlderSchema),
-        Step::Answers("examine", &[], "", OLDER),
-    ];
-    session(&rt, "older", STEPS)
-}
-
-#[test]
-fn a_row_beside_the_version_is_found(rt: HostRuntime) -> Result<(), Fail> {
-    const UNREADABLE: &str =
-        "upd: a library with a row that upd can't read, or a damaged one: restore a backup\n";
-    const STEPS: &[Step<'_>] = &[
-        Step::Changes("INSERT INTO meta (k, v) VALUES ('x', 1)"),
-        Step::Is(Situation::Unreadable),
-        Step::Answers("examine", &[], "", (3, "", UNREADABLE)),
-        Step::Changes("DELETE FROM meta WHERE k = 'x'"),
-        Step::IsSound(EMPTY_LINE, false),
-    ];
-    session(&rt, "beside", STEPS)
-}
-
-/// A database with none of a library's tables.
-#[test]
-fn another_database_is_named(rt: HostRuntime) -> Result<(), Fail> {
-    const OTHER: &str =
-        "DROP TABLE meta; DROP TABLE idents; DROP TABLE cards; DROP TABLE entries; DROP TABLE targets; \
-DROP TABLE states; DROP TABLE counts; DROP TABLE runs; DROP TABLE settled; CREATE TABLE note (id INTEGER PRIMARY KEY) STRICT";
-    const STEPS: &[Step<'_>] = &[Step::Changes(OTHER), Step::Is(Situation::NotLibrary)];
-    session(&rt, "another", STEPS)
 }
 
 /// The second page of a file is overwritten.
@@ -162,56 +194,17 @@ fn damage(rt: &HostRuntime, file: &str) -> Result<(), Fail> {
 
 #[test]
 fn a_damaged_page_is_named(rt: HostRuntime) -> Result<(), Fail> {
-    let file = library(&rt, "damaged")?;
-    damage(&rt, &file)?;
-    take_all(&rt, &file, &[Step::Is(Situation::Damaged)])?;
-    remove(&rt, &file)
-}
-
-#[test]
-fn a_status_changed_by_hand_is_found(rt: HostRuntime) -> Result<(), Fail> {
     const LINES: &str = "\
-states A.2 (active) is not stored, and the library has it
-states A.2 (not active) is stored, and the library does not have it
+upd: the file or its log is damaged, or another program wrote to one: copy both; then move away a log of another file, \
+restore a backup, or use `sqlite3 COPY .dump`
+upd: pages with a wrong sum: 2
 ";
     const STEPS: &[Step<'_>] = &[
-        ONE_CARD,
-        Step::Changes("UPDATE states SET active = 0 WHERE num = 2"),
-        Step::IsUnsound(LINES),
+        Step::Is(Situation::Damaged),
+        Step::Answers("examine", &[], "", (3, "", LINES)),
     ];
-    session(&rt, "status", STEPS)
-}
-
-#[test]
-fn the_command_writes_what_was_found(rt: HostRuntime) -> Result<(), Fail> {
-    const NO_FILE: Wanted<'_> = (
-        3,
-        "",
-        "upd: there is no such file: check the path; `upd init` makes a library\n",
-    );
-    const STEPS: &[Step<'_>] = &[
-        Step::Answers("examine", &[], "", NO_FILE),
-        Step::Answers("init", &[], "", SILENT),
-        Step::Examines(EMPTY_LINE),
-    ];
-    session_without_file(&rt, "reported", STEPS)
-}
-
-#[test]
-fn the_command_reports_a_log(rt: HostRuntime) -> Result<(), Fail> {
-    const LINES: &str = "\
-log: keep FILE-wal with the file, it may have commits that the file lacks
-sound: decks 0, cards 0, runs 0, replies 0";
-    session(&rt, "logged", &[LOGGED, Step::Examines(LINES)])
-}
-
-#[test]
-fn the_command_reports_findings(rt: HostRuntime) -> Result<(), Fail> {
-    const LINES: Wanted<'_> = (1, "", "runs LYON 1 is at or below the mark 1\n");
-    const STEPS: &[Step<'_>] = &[
-        ONE_CARD,
-        Step::Changes("INSERT INTO settled (site, mark) VALUES ('LYON', 1)"),
-        Step::Answers("examine", &[], "", LINES),
-    ];
-    session(&rt, "findings", STEPS)
+    let file = library(&rt, "damaged")?;
+    damage(&rt, &file)?;
+    take_all(&rt, &file, STEPS)?;
+    remove(&rt, &file)
 }

@@ -12,22 +12,13 @@ pub fn connected(rt: &HostRuntime, file: &str) -> Result<FileConnection, Fail> {
     Ok(connect(rt, file, Unknown)?)
 }
 
-fn close<D: Disk + Drop>(conn: Connection<FileStore<D>>) -> Result<(), Fail> {
-    Ok(conn.close()?)
-}
-
-/// Executes statements, which are in the log then, and says whether it could.
-fn execute<D: Disk + Drop>(conn: &mut Connection<FileStore<D>>, sql: &str) -> bool {
-    conn.execute_batch(sql).is_ok()
-}
-
 /// Executes a statement and closes the connection.
 fn execute_and_close<D: Disk + Drop>(
     mut conn: Connection<FileStore<D>>,
     sql: &str,
 ) -> Result<(), Fail> {
-    let is_done = execute(&mut conn, sql);
-    close(conn)?;
+    let is_done = conn.execute_batch(sql).is_ok();
+    conn.close()?;
     holds(sql, is_done)
 }
 
@@ -36,7 +27,7 @@ fn execute_and_leave<D: Disk + Drop>(
     mut conn: Connection<FileStore<D>>,
     sql: &str,
 ) -> Result<(), Fail> {
-    holds(sql, execute(&mut conn, sql))
+    holds(sql, conn.execute_batch(sql).is_ok())
 }
 
 /// Changes the tables of a library.

@@ -1,5 +1,5 @@
 //! Texts, cards, runs and libraries of great sizes are answered as small ones are.
-use crate::console::{accepts, answers_of, ask, library, remove};
+use crate::console::{accepts, answers_of, ask, ask_of, begins, contains, library, remove};
 use crate::file_changes::change;
 use crate::file_sessions::{Step, take_all};
 use crate::large_purges::{add_deck, is_sent};
@@ -12,8 +12,7 @@ fn the_longest_text_is_read(rt: HostRuntime) -> Result<(), Fail> {
     let file = library(&rt, "longest")?;
     let text = vec![in rt.alloc(); b'X'; 4_050_000]?;
     let found = ask(&rt, &["correct", &file, "T"], &mut text.as_slice())?;
-    let is_front = found.faults.starts_with(b"LineLong 1:81 ");
-    same("the status, the line", (found.status, is_front), (1, true))?;
+    begins(&found, (1, "", "LineLong 1:81 "))?;
     remove(&rt, &file)
 }
 
@@ -22,24 +21,11 @@ fn a_card_of_80_columns_is_edited_and_blamed(rt: HostRuntime) -> Result<(), Fail
     let file = library(&rt, "columns")?;
     let alloc = rt.alloc();
     let (old, new) = ("X".repeat(alloc, 80)?, "Y".repeat(alloc, 80)?);
-    accepts(
-        &rt,
-        &file,
-        "1",
-        "quick",
-        &format!(in alloc; "*DECK A\n{old}\n")?,
-    )?;
-    let found = ask(&rt, &["blame", &file, "A"], &mut b"".as_slice())?;
-    let text = std::str::from_utf8(&found.output)?;
-    same(
-        "the status, the card",
-        (found.status, text.contains(old.as_str())),
-        (0, true),
-    )?;
-    let (text, run) = (
-        format!(in alloc; "*DECK A\n{new}\n")?,
-        format!(in alloc; "*IDENT T\n*DELETE A.2\n{new}\n")?,
-    );
+    let run = format!(in alloc; "*DECK A\n{old}\n")?;
+    accepts(&rt, &file, "1", "quick", &run)?;
+    contains(&ask_of(&rt, &file, "blame", &["A"], "")?, (0, &old, ""))?;
+    let text = format!(in alloc; "*DECK A\n{new}\n")?;
+    let run = format!(in alloc; "*IDENT T\n*DELETE A.2\n{new}\n")?;
     answers_of(&rt, &file, "correct", &["T"], &text, (0, &run, ""))?;
     remove(&rt, &file)
 }
@@ -51,14 +37,8 @@ fn forty_decks_of_one_run_are_compiled(rt: HostRuntime) -> Result<(), Fail> {
     for number in 1..=40_u32 {
         write!(run, "*DECK D{number}\nX\n")?;
     }
-    let words = ["run", file.as_str(), "LYON", "1", "normal"];
-    let found = ask(&rt, &words, &mut run.as_bytes())?;
-    let text = std::str::from_utf8(&found.output)?;
-    same(
-        "the status, the lines",
-        (found.status, text.contains("\"lines\":40,")),
-        (0, true),
-    )?;
+    let found = ask_of(&rt, &file, "run", &["LYON", "1", "normal"], &run)?;
+    contains(&found, (0, "\"lines\":40,", ""))?;
     remove(&rt, &file)
 }
 
@@ -69,10 +49,10 @@ fn eighty_findings_are_written_whole(rt: HostRuntime) -> Result<(), Fail> {
     let run = format!(in rt.alloc(); "*DECK A\n{}", "X\n".repeat(rt.alloc(), 39)?.as_str())?;
     accepts(&rt, &file, "1", "quick", &run)?;
     change(&rt, &file, "UPDATE states SET active = 0")?;
-    let found = ask(&rt, &["examine", &file], &mut b"".as_slice())?;
+    let found = ask_of(&rt, &file, "examine", &[], "")?;
     let text = std::str::from_utf8(&found.faults)?;
     same(
-        "the status, the lines",
+        "status, lines",
         (found.status, text.lines().count()),
         (1, 80),
     )?;
@@ -85,16 +65,13 @@ fn eighty_findings_are_written_whole(rt: HostRuntime) -> Result<(), Fail> {
 
 #[test]
 fn a_library_of_42000_cards_is_examined(rt: HostRuntime) -> Result<(), Fail> {
-    const SOUND: Step<'_> = Step::IsSound(
-        "sound: decks 21, cards 42000, runs 21, replies 2042",
-        false,
-    );
+    const LINE: &str = "sound: decks 21, cards 42000, runs 21, replies 2042";
     let file = library(&rt, "examined")?;
     let mut spool = String::new(rt.alloc());
     for number in 2..23 {
         add_deck(&mut spool, number)?;
     }
     is_sent(&rt, &file, spool.as_str())?;
-    take_all(&rt, &file, &[SOUND])?;
+    take_all(&rt, &file, &[Step::IsSound(LINE, false)])?;
     remove(&rt, &file)
 }

@@ -1,6 +1,7 @@
 //! What a command leaves in the tables of a library of two sites, with a stored refusal and marks.
-use crate::console::{ask_of, fresh, library, remove};
-use crate::file_sessions::{SILENT, Step, take_all};
+use crate::console::{answers, ask_of, fresh, library, remove};
+use crate::file_sessions::{SILENT, Step, session_without_file, take_all};
+use crate::refusals::COMMANDS;
 use crate::served_address::serves;
 use std::test::Fail;
 
@@ -23,30 +24,19 @@ RUN LYON 4 full 6\nHELLO\n\nRUN OSLO 7 quick 0\n\n",
     (0, REPLIES, ""),
 );
 
-const SETTLED: Step<'static> = Step::Writes(
-    "settle",
-    &["LYON", "1"],
-    "{\"settled\":1,\"site\":\"LYON\"}\n",
-);
+const SETTLED: Step<'static> = Step::Settles("LYON", "1", "1");
 
 /// The other site settles runs that never came; its run 7 stays stored.
-const OSLO_SETTLED: Step<'static> = Step::Writes(
-    "settle",
-    &["OSLO", "3"],
-    "{\"settled\":3,\"site\":\"OSLO\"}\n",
-);
+const OSLO_SETTLED: Step<'static> = Step::Settles("OSLO", "3", "3");
 
 const REPLY: &str =
     "{\"compile\":\"\",\"idents\":[\"Y\"],\"lines\":0,\"mode\":\"quick\",\"run\":3,\"site\":\"LYON\",\
 \"state\":\"accepted\"}\n";
 
+const THIRD: &[&str] = &["LYON", "3", "quick"];
+
 /// Run 3 is accepted, or its first reply is repeated.
-const YANKED: Step<'static> = Step::Answers(
-    "run",
-    &["LYON", "3", "quick"],
-    "*IDENT Y\n*YANK X\n",
-    (0, REPLY, ""),
-);
+const YANKED: Step<'static> = Step::Answers("run", THIRD, "*IDENT Y\n*YANK X\n", (0, REPLY, ""));
 
 /// The rows after these runs and the settlement, of the library that docs/library-file.md shows, and the refusal.
 const ROWS: Step<'static> = Step::HasRows(
@@ -70,120 +60,81 @@ states|A|1|1\nstates|A|2|1\nstates|A|3|1\nstates|A|4|1\nstates|X|1|0\nstates|Y|1
 targets|Y|1|0|0|2|0\n",
 );
 
-/// All steps, after those runs, are as they say, and the library has the rows then.
-fn keeps_rows(rt: &HostRuntime, name: &str, steps: &[Step<'_>]) -> Result<(), Fail> {
-    let file = library(rt, name)?;
-    take_all(rt, &file, &[SENT, SETTLED, OSLO_SETTLED])?;
-    take_all(rt, &file, steps)?;
-    take_all(rt, &file, &[ROWS])?;
-    remove(rt, &file)
-}
-
 #[test]
-fn an_examination_changes_no_row(rt: HostRuntime) -> Result<(), Fail> {
-    const SOUND: &str = "sound: decks 1, cards 6, runs 4, replies 375";
-    keeps_rows(&rt, "examined", &[YANKED, Step::Examines(SOUND)])
+fn rows_are_kept(rt: HostRuntime) -> Result<(), Fail> {
+    const MIGRATED: Step<'static> = Step::Answers("migrate", &[], "", SILENT);
+    const FIRST_SCHEMA: &str =
+        "DROP TABLE settled; DROP TABLE states; DROP TABLE counts; UPDATE meta SET v = 1";
+    /// The marks are lost with their table, and are set again.
+    const STEPS: &[Step<'_>] = &[
+        Step::New("an examination changes no row (rule 10.87)"),
+        SENT,
+        SETTLED,
+        OSLO_SETTLED,
+        YANKED,
+        Step::Examines("sound: decks 1, cards 6, runs 4, replies 375"),
+        ROWS,
+        Step::Shows("a migration from the second schema keeps all rows (rule 10.49)"),
+        Step::Changes("DROP TABLE settled; UPDATE meta SET v = 2"),
+        MIGRATED,
+        SETTLED,
+        OSLO_SETTLED,
+        ROWS,
+        Step::Shows("a migration from the first schema keeps all rows (rule 10.49)"),
+        Step::Changes(FIRST_SCHEMA),
+        MIGRATED,
+        SETTLED,
+        OSLO_SETTLED,
+        ROWS,
+    ];
+    session_without_file(&rt, "rows", STEPS)
 }
 
-/// Commands that change nothing, with the words after their file.
-const ASKED: &[(&str, &[&str])] = &[
-    ("run", &["LYON", "1", "full"]),
-    ("run", &["LYON", "2", "full"]),
-    ("run", &["lyon", "5", "full"]),
-    ("settle", &["LYON", "0"]),
-    ("spool", &[]),
-    ("try", &["full"]),
-    ("try-at", &["full", "A"]),
-    ("text", &["A"]),
-    ("text-at", &["A", "A"]),
-    ("correct", &["Z"]),
-    ("correct-at", &["Z", "A"]),
-    ("correct-parts", &["Z", "LYON", "5", "full"]),
-    ("compile", &[]),
-    ("list", &["A"]),
-    ("history", &["A.2"]),
-    ("blame", &["A"]),
-    ("show", &["X"]),
-    ("source", &["A"]),
-    ("idents", &[]),
-    ("yanks", &[]),
-    ("page", &[]),
-    ("runs", &[]),
-    ("sites", &[]),
-    ("replay", &[]),
-    ("init", &[]),
-    ("migrate", &[]),
-];
+/// A command is asked over a text of deck A, and its answer is not looked at.
+fn is_asked(rt: &HostRuntime, file: &str, name: &str, words: &[&str]) -> Result<(), Fail> {
+    ask_of(rt, file, name, words, "*DECK A\nTWO\n")?;
+    Ok(())
+}
 
-/// Each is asked over a text of deck A; its answer is not looked at.
+/// Here all commands that need a library change nothing, but for servers, which would wait for a client.
 #[test]
 fn questions_and_refusals_change_no_row(rt: HostRuntime) -> Result<(), Fail> {
+    /// More commands that change nothing, with the words after their file.
+    const ASKED: &[(&str, &[&str])] = &[
+        ("run", &["LYON", "2", "full"]),
+        ("run", &["lyon", "5", "full"]),
+        ("settle", &["LYON", "0"]),
+        ("init", &[]),
+    ];
     let file = library(&rt, "asked")?;
     take_all(&rt, &file, &[SENT, SETTLED, OSLO_SETTLED, YANKED])?;
     for (name, words) in ASKED {
-        ask_of(&rt, &file, name, words, "*DECK A\nTWO\n")?;
+        is_asked(&rt, &file, name, words)?;
+    }
+    for (name, words) in COMMANDS {
+        if !name.starts_with("serve") {
+            is_asked(&rt, &file, name, words)?;
+        }
     }
     take_all(&rt, &file, &[ROWS])?;
     remove(&rt, &file)
 }
 
-const MIGRATED: Step<'static> = Step::Answers("migrate", &[], "", SILENT);
-
-/// The marks are lost with their table, and are set again.
-#[test]
-fn a_migration_from_the_second_schema_keeps_all_rows(rt: HostRuntime) -> Result<(), Fail> {
-    const SECOND: &str = "DROP TABLE settled; UPDATE meta SET v = 2";
-    keeps_rows(
-        &rt,
-        "from-2",
-        &[
-            YANKED,
-            Step::Changes(SECOND),
-            MIGRATED,
-            SETTLED,
-            OSLO_SETTLED,
-        ],
-    )
-}
-
-#[test]
-fn a_migration_from_the_first_schema_keeps_all_rows(rt: HostRuntime) -> Result<(), Fail> {
-    const FIRST: &str =
-        "DROP TABLE settled; DROP TABLE states; DROP TABLE counts; UPDATE meta SET v = 1";
-    keeps_rows(
-        &rt,
-        "from-1",
-        &[
-            YANKED,
-            Step::Changes(FIRST),
-            MIGRATED,
-            SETTLED,
-            OSLO_SETTLED,
-        ],
-    )
-}
-
-/// A copy has all rows of the library, which keeps them.
-fn is_copied(rt: &HostRuntime, copy: &str) -> Result<(), Fail> {
-    let words = [copy];
-    keeps_rows(rt, "copied", &[YANKED, Step::Writes("backup", &words, "")])?;
-    take_all(rt, copy, &[ROWS])
-}
-
-/// So has a library that is made anew.
-fn is_made_anew(rt: &HostRuntime, copy: &str) -> Result<(), Fail> {
-    let words = [copy];
-    keeps_rows(rt, "copied", &[YANKED, Step::Writes("compact", &words, "")])?;
-    take_all(rt, copy, &[ROWS])
+/// A copy that this command makes has all rows of the library, which keeps them.
+fn is_copied(rt: &HostRuntime, command: &str) -> Result<(), Fail> {
+    let (file, copy) = (library(rt, "copied")?, fresh(rt, "all-rows")?);
+    take_all(rt, &file, &[SENT, SETTLED, OSLO_SETTLED, YANKED])?;
+    answers(rt, &[command, &file, &copy], "", SILENT)?;
+    take_all(rt, &file, &[ROWS])?;
+    take_all(rt, &copy, &[ROWS])?;
+    remove(rt, &copy)?;
+    remove(rt, &file)
 }
 
 #[test]
 fn copies_have_all_rows_and_change_none(rt: HostRuntime) -> Result<(), Fail> {
-    let (copy, anew) = (fresh(&rt, "all-rows")?, fresh(&rt, "anew-rows")?);
-    is_copied(&rt, &copy)?;
-    is_made_anew(&rt, &anew)?;
-    remove(&rt, &copy)?;
-    remove(&rt, &anew)
+    is_copied(&rt, "backup")?;
+    is_copied(&rt, "compact")
 }
 
 /// Run 3 is sent over HTTP. Afterwards its reply is stored beside the others, and is repeated.
@@ -193,7 +144,8 @@ fn a_run_over_http_is_in_the_file_afterwards(rt: HostRuntime) -> Result<(), Fail
         "POST /sites/LYON/runs/3/quick HTTP/1.1\r\nContent-Length: 17\r\n\r\n*IDENT Y\n*YANK X\n";
     const ANSWER: &str =
         "HTTP/1.1 200 OK\r\nContent-Type: application/json\r\nContent-Length: 95\r\nConnection: close\r\n\r\n\
-{\"compile\":\"\",\"idents\":[\"Y\"],\"lines\":0,\"mode\":\"quick\",\"run\":3,\"site\":\"LYON\",\"state\":\"accepted\"}";
+{\"compile\":\"\",\"idents\":[\"Y\"],\"lines\":0,\"mode\":\"quick\",\"run\":3,\"site\":\"LYON\",\
+\"state\":\"accepted\"}";
     let file = library(&rt, "posted")?;
     take_all(&rt, &file, &[SENT, SETTLED, OSLO_SETTLED])?;
     serves(&rt, &file, POST, ANSWER)?;

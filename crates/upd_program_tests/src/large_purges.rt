@@ -35,24 +35,19 @@ pub fn is_sent(rt: &HostRuntime, file: &str, spool: &str) -> Result<(), Fail> {
     same("the status", found.status, 0)
 }
 
-/// The site settles its runs, and deck A is left.
-const LEFT: &[Step<'static>] = &[
-    Step::Writes(
-        "settle",
-        &["LYON", "10"],
-        "{\"settled\":10,\"site\":\"LYON\"}\n",
-    ),
-    Step::HasRows(
-        "cards|A|1|1|0|*DECK A\ncards|A|2|1|1|ONE\nentries|A|1|0|1|1\nentries|A|2|0|1|1\n\
-idents|1|A|1|0|1\nidents|2|B2|1|0|0\nidents|3|B3|1|0|0\nidents|4|B4|1|0|0\nidents|5|B5|1|0|0\n\
-idents|6|B6|1|0|0\nidents|7|B7|1|0|0\nidents|8|B8|1|0|0\nidents|9|B9|1|0|0\n\
-meta|version|3\nsettled|LYON|10\nstates|A|1|1\nstates|A|2|1\n",
-    ),
-];
-
 /// Each of the cards goes, with its entry: more than 32,000 row changes.
 #[test]
 fn sixteen_thousand_cards_are_purged_in_one_commit(rt: HostRuntime) -> Result<(), Fail> {
+    /// The site settles its runs, and deck A is left.
+    const LEFT: &[Step<'static>] = &[
+        Step::Settles("LYON", "10", "10"),
+        Step::HasRows(
+            "cards|A|1|1|0|*DECK A\ncards|A|2|1|1|ONE\nentries|A|1|0|1|1\nentries|A|2|0|1|1\n\
+idents|1|A|1|0|1\nidents|2|B2|1|0|0\nidents|3|B3|1|0|0\nidents|4|B4|1|0|0\nidents|5|B5|1|0|0\n\
+idents|6|B6|1|0|0\nidents|7|B7|1|0|0\nidents|8|B8|1|0|0\nidents|9|B9|1|0|0\n\
+meta|version|3\nsettled|LYON|10\nstates|A|1|1\nstates|A|2|1\n",
+        ),
+    ];
     let file = library(&rt, "purged")?;
     let spool = purged_decks(rt.alloc())?;
     is_sent(&rt, &file, spool.as_str())?;

@@ -1,4 +1,4 @@
-//! Tests of whole command lines, over memory and on a library in a file, which is made in the folder of temporary files.
+//! Tests of whole command lines, over memory and on a library in a file in the folder of temporary files.
 //!
 //! Expected values are worked by hand from `docs/protocol.md`.
 #![tactic(auto)]

@@ -1,6 +1,6 @@
 //! What the copy of a library is, what is in its way, and who may read it. Rules 10.81 and 10.82.
 use crate::console::{accepts, answers, fresh, library, remove};
-use crate::file_sessions::{Step, take_all};
+use crate::file_sessions::{SILENT, Step, has_bytes, take_all};
 use sqlite::Connection;
 use sqlite_disk::Unknown;
 use std::fs;
@@ -9,9 +9,9 @@ use std::test::Fail;
 use upd_store::SqlStore;
 use upd_testkit::check::{holds, same};
 
-/// A copy is made.
-fn copies(rt: &HostRuntime, file: &str, copy: &str) -> Result<(), Fail> {
-    take_all(rt, file, &[Step::Writes("backup", &[copy], "")])
+/// A copy is made by this command.
+fn copies(rt: &HostRuntime, command: &str, file: &str, copy: &str) -> Result<(), Fail> {
+    answers(rt, &[command, file, copy], "", SILENT)
 }
 
 /// A deck of 1,999 lines arrives. Its full reply has 97 bytes for each line of the library.
@@ -21,32 +21,28 @@ fn add_deck(rt: &HostRuntime, file: &str, number: &str, deck: &str) -> Result<()
     accepts(rt, file, number, "full", &run)
 }
 
-/// A library with three such decks.
-fn large(rt: &HostRuntime, name: &str) -> Result<String, Fail> {
-    let file = library(rt, name)?;
-    for (number, deck) in [("1", "A"), ("2", "B"), ("3", "C")] {
-        add_deck(rt, &file, number, deck)?;
-    }
-    Ok(file)
+/// Two such decks arrive.
+fn add_decks(rt: &HostRuntime, file: &str) -> Result<(), Fail> {
+    add_deck(rt, file, "1", "A")?;
+    add_deck(rt, file, "2", "B")
 }
 
 /// Two files have the same bytes, more than a mebibyte.
 fn are_same_and_large(rt: &HostRuntime, file: &str, copy: &str) -> Result<(), Fail> {
     let bytes = fs::read(rt, file)?;
     holds("a large library", bytes.len() > 1_048_576)?;
-    holds("the same bytes", fs::read(rt, copy)? == bytes)
+    has_bytes(rt, copy, &bytes)
 }
 
 #[test]
 fn a_large_library_is_copied_whole(rt: HostRuntime) -> Result<(), Fail> {
-    const SOUND: Step<'_> = Step::IsSound(
-        "sound: decks 3, cards 6000, runs 3, replies 1175703",
-        false,
-    );
-    let (file, copy) = (large(&rt, "large")?, fresh(&rt, "large-copy")?);
-    copies(&rt, &file, &copy)?;
+    const LINE: &str = "sound: decks 3, cards 6000, runs 3, replies 1175703";
+    let (file, copy) = (library(&rt, "large")?, fresh(&rt, "large-copy")?);
+    add_decks(&rt, &file)?;
+    add_deck(&rt, &file, "3", "C")?;
+    copies(&rt, "backup", &file, &copy)?;
     are_same_and_large(&rt, &file, &copy)?;
-    take_all(&rt, &copy, &[SOUND])?;
+    take_all(&rt, &copy, &[Step::IsSound(LINE, false)])?;
     remove(&rt, &copy)?;
     remove(&rt, &file)
 }
@@ -74,12 +70,10 @@ fn gets_sums(rt: &HostRuntime, file: &str, copy: &str) -> Result<(), Fail> {
 
 #[test]
 fn a_library_made_anew_is_smaller_and_has_sums(rt: HostRuntime) -> Result<(), Fail> {
-    const SETTLED: &str = "{\"settled\":1,\"site\":\"LYON\"}\n";
     let (file, copy) = (without_sums(&rt, "loose")?, fresh(&rt, "anew")?);
-    add_deck(&rt, &file, "1", "A")?;
-    add_deck(&rt, &file, "2", "B")?;
-    answers(&rt, &["settle", &file, "LYON", "1"], "", (0, SETTLED, ""))?;
-    answers(&rt, &["compact", &file, &copy], "", (0, "", ""))?;
+    add_decks(&rt, &file)?;
+    take_all(&rt, &file, &[Step::Settles("LYON", "1", "1")])?;
+    copies(&rt, "compact", &file, &copy)?;
     gets_sums(&rt, &file, &copy)?;
     is_refused(&rt, &file, &copy)?;
     remove(&rt, &copy)?;
@@ -109,7 +103,7 @@ fn is_in_the_way(rt: &HostRuntime, file: &str, copy: &str, ending: &str) -> Resu
     let taken = with_ending(rt, copy, ending)?;
     fs::write(rt, taken.as_str(), OTHER)?;
     is_refused(rt, file, copy)?;
-    same(ending, fs::read(rt, taken.as_str())?.as_slice(), OTHER)?;
+    has_bytes(rt, &taken, OTHER)?;
     Ok(fs::remove_file(rt, taken.as_str())?)
 }
 
@@ -126,12 +120,21 @@ fn what_is_in_the_way_of_a_copy_stays(rt: HostRuntime) -> Result<(), Fail> {
     remove(&rt, &file)
 }
 
+/// No copy is made under a name that SQLite reads as something else.
+#[test]
+fn a_copy_has_the_name_of_a_file(rt: HostRuntime) -> Result<(), Fail> {
+    let file = library(&rt, "unnamed")?;
+    for copy in [":memory:", "file:upd-copy.db"] {
+        is_refused(&rt, &file, copy)?;
+        is_free(&rt, copy, "")?;
+    }
+    remove(&rt, &file)
+}
+
 /// A link under the name of the copy with this ending is not followed.
 fn is_not_followed(rt: &HostRuntime, file: &str, copy: &str, ending: &str) -> Result<(), Fail> {
-    let (link, target) = (
-        with_ending(rt, copy, ending)?,
-        with_ending(rt, copy, ".to")?,
-    );
+    let link = with_ending(rt, copy, ending)?;
+    let target = with_ending(rt, copy, ".to")?;
     symlink(rt, target.as_str(), link.as_str())?;
     is_refused(rt, file, copy)?;
     is_free(rt, copy, ".to")?;
@@ -156,7 +159,7 @@ fn is_private(rt: &HostRuntime, file: &str) -> Result<(), Fail> {
 fn a_new_library_and_its_copy_are_their_owners(rt: HostRuntime) -> Result<(), Fail> {
     let (file, copy) = (library(&rt, "private")?, fresh(&rt, "private-copy")?);
     is_private(&rt, &file)?;
-    copies(&rt, &file, &copy)?;
+    copies(&rt, "backup", &file, &copy)?;
     is_private(&rt, &copy)?;
     is_free(&rt, &copy, ".part")?;
     remove(&rt, &copy)?;

@@ -1,7 +1,7 @@
 //! What the file of a library holds, and what its log.
-use crate::console::{answers, fresh, library, remove};
+use crate::console::{accepts, answers, fresh, library, remove};
 use crate::file_changes::connected;
-use crate::file_sessions::{NO_LIBRARY, SILENT, Step, Wanted, session, take_all};
+use crate::file_sessions::{NO_LIBRARY, SILENT, Step, Wanted, session_without_file, take_all};
 use crate::site_commands::{NO_MARKS, SECOND_SCHEMA};
 use sqlite::{Connection, FileStore};
 use sqlite_disk::Disk;
@@ -11,11 +11,19 @@ use std::test::Fail;
 use upd_keep::Situation;
 use upd_testkit::check::holds;
 
-const ONE_DECK: Step<'static> = Step::Writes("idents", &[], "1 A deck held\n");
-
 #[test]
-fn the_file_without_its_log_is_the_library(rt: HostRuntime) -> Result<(), Fail> {
+fn the_file_is_the_library(rt: HostRuntime) -> Result<(), Fail> {
+    const ONE_DECK: Step<'static> = Step::Writes("idents", &[], "1 A deck held\n");
+    const REPLY: &str =
+        "{\"compile\":\"\",\"idents\":[\"A\"],\"lines\":0,\"mode\":\"quick\",\"run\":1,\"site\":\"LYON\",\
+\"state\":\"accepted\"}\n";
+    const FRAME: &str = "RUN LYON 1 quick 12\n*DECK A\nONE\n\n";
+    /// Such a frame before another, which ends too early.
+    const CUT_FRAMES: &str = "RUN LYON 1 quick 12\n*DECK A\nONE\n\nRUN";
+    const CUT: Wanted<'static> = (1, REPLY, "upd: CutFrame (31) at 2\n");
+    const SETTLED: &str = "{\"at\":0,\"fault\":27,\"name\":\"Settled\"}\n";
     const STEPS: &[Step<'_>] = &[
+        Step::New("the file without its log is the library"),
         Step::LosesLog,
         Step::Writes("idents", &[], ""),
         Step::Accepts("1", "full", "*DECK A\nONE\n"),
@@ -26,62 +34,34 @@ fn the_file_without_its_log_is_the_library(rt: HostRuntime) -> Result<(), Fail> 
         Step::Writes("migrate", &[], ""),
         Step::LosesLog,
         ONE_DECK,
-    ];
-    session(&rt, "alone", STEPS)
-}
-
-const REPLY: &str =
-    "{\"compile\":\"\",\"idents\":[\"A\"],\"lines\":0,\"mode\":\"quick\",\"run\":1,\"site\":\"LYON\",\
-\"state\":\"accepted\"}\n";
-
-#[test]
-fn the_file_without_its_log_has_the_runs_of_a_spool(rt: HostRuntime) -> Result<(), Fail> {
-    const FRAME: &str = "RUN LYON 1 quick 12\n*DECK A\nONE\n\n";
-    const STEPS: &[Step<'_>] = &[
+        Step::New("the file without its log has the runs of a spool"),
         Step::Answers("spool", &[], FRAME, (0, REPLY, "")),
         Step::LosesLog,
         ONE_DECK,
-    ];
-    session(&rt, "spooled", STEPS)
-}
-
-#[test]
-fn the_file_without_its_log_has_the_runs_before_the_cut_of_a_spool(
-    rt: HostRuntime,
-) -> Result<(), Fail> {
-    const FRAMES: &str = "RUN LYON 1 quick 12\n*DECK A\nONE\n\nRUN";
-    const CUT: Wanted<'_> = (1, REPLY, "upd: CutFrame (31) at 2\n");
-    const STEPS: &[Step<'_>] = &[
-        Step::Answers("spool", &[], FRAMES, CUT),
+        Step::New("the file without its log has the runs before the cut of a spool"),
+        Step::Answers("spool", &[], CUT_FRAMES, CUT),
         Step::LosesLog,
         ONE_DECK,
-    ];
-    session(&rt, "cut", STEPS)
-}
-
-#[test]
-fn the_file_without_its_log_has_a_mark(rt: HostRuntime) -> Result<(), Fail> {
-    const SETTLED: &str = "{\"at\":0,\"fault\":27,\"name\":\"Settled\"}\n";
-    const STEPS: &[Step<'_>] = &[
-        Step::Writes(
-            "settle",
-            &["LYON", "1"],
-            "{\"settled\":1,\"site\":\"LYON\"}\n",
-        ),
+        Step::New("the file without its log has a mark"),
+        Step::Settles("LYON", "1", "1"),
         Step::LosesLog,
         Step::Answers("run", &["LYON", "1", "quick"], "", (1, SETTLED, "")),
-    ];
-    session(&rt, "mark", STEPS)
-}
-
-#[test]
-fn changes_only_in_the_log_are_read(rt: HostRuntime) -> Result<(), Fail> {
-    const OTHER: Wanted<'_> = (3, "", "upd: Store (29) at 2\n");
-    const STEPS: &[Step<'_>] = &[
+        Step::New("changes only in the log are read (rule 10.48.1)"),
         Step::Logs("UPDATE meta SET v = 2"),
-        Step::Answers("idents", &[], "", OTHER),
+        Step::Answers("idents", &[], "", (3, "", "upd: Store (29) at 2\n")),
+        Step::NoFile("at a path without a file"),
+        Step::File("an empty file is no library, and stays (rule 10.48.1)", b""),
+        Step::AllAnswer(NO_LIBRARY),
+        Step::Has(b""),
+        Step::NoFile("at a path without a file"),
+        Step::File(
+            "a library is made in an empty file as at that path (rule 10.48.4)",
+            b"",
+        ),
+        Step::Answers("init", &[], "", SILENT),
+        Step::Writes("idents", &[], ""),
     ];
-    session(&rt, "log", STEPS)
+    session_without_file(&rt, "alone", STEPS)
 }
 
 /// All steps are as they say while a connection is open, which is closed then.
@@ -111,51 +91,30 @@ fn a_library_in_use_is_refused(rt: HostRuntime) -> Result<(), Fail> {
     remove(&rt, &file)
 }
 
-#[test]
-fn an_empty_file_is_refused(rt: HostRuntime) -> Result<(), Fail> {
-    let file = fresh(&rt, "empty")?;
-    fs::write(&rt, file.as_str(), b"")?;
-    take_all(&rt, &file, &[Step::AllAnswer(NO_LIBRARY)])?;
-    holds("an empty file", fs::read(&rt, file.as_str())?.is_empty())?;
-    remove(&rt, &file)
-}
-
-/// `serve` at the address of a listener, which is in use, has this line on the fault stream.
-fn fails_to_serve(
-    rt: &HostRuntime,
-    file: &str,
-    listener: &TcpListener,
-    line: &str,
-) -> Result<(), Fail> {
-    let address = format!(in rt.alloc(); "{}", listener.local_addr()?)?;
-    answers(rt, &["serve", file, &address, "1"], "", (3, "", line))
-}
-
-/// The address of a listener is refused after the file is looked at.
-fn is_refused_after_file(rt: &HostRuntime, file: &str, listener: &TcpListener) -> Result<(), Fail> {
-    fails_to_serve(rt, file, listener, "upd: Store (29) at 0\n")?;
-    answers(rt, &["init", file], "", SILENT)?;
-    fails_to_serve(rt, file, listener, "upd: Read (32) at 0\n")
+/// `serve` at an address that is in use has this line on the fault stream.
+fn fails_to_serve(rt: &HostRuntime, file: &str, address: &str, line: &str) -> Result<(), Fail> {
+    answers(rt, &["serve", file, address, "1"], "", (3, "", line))
 }
 
 #[test]
 fn an_address_in_use_is_reported_after_the_file(rt: HostRuntime) -> Result<(), Fail> {
     let file = fresh(&rt, "address")?;
-    is_refused_after_file(&rt, &file, &TcpListener::bind(&rt, "127.0.0.1:0")?)?;
+    let listener = TcpListener::bind(&rt, "127.0.0.1:0")?;
+    let address = format!(in rt.alloc(); "{}", listener.local_addr()?)?;
+    fails_to_serve(&rt, &file, &address, "upd: Store (29) at 0\n")?;
+    answers(&rt, &["init", &file], "", SILENT)?;
+    fails_to_serve(&rt, &file, &address, "upd: Read (32) at 0\n")?;
     remove(&rt, &file)
 }
 
-/// A library is made in an empty file as at a path without a file.
-#[test]
-fn a_library_is_made_in_an_empty_file(rt: HostRuntime) -> Result<(), Fail> {
-    const STEPS: &[Step<'_>] = &[
-        Step::Answers("init", &[], "", SILENT),
-        Step::Writes("idents", &[], ""),
-    ];
-    let file = fresh(&rt, "blank")?;
-    fs::write(&rt, file.as_str(), b"")?;
-    take_all(&rt, &file, STEPS)?;
-    remove(&rt, &file)
+/// The first byte of a text in a file gets another bit.
+fn change_byte(rt: &HostRuntime, file: &str, text: &[u8]) -> Result<(), Fail> {
+    let mut bytes = fs::read(rt, file)?;
+    let at = place_of(&bytes, text).ok_or("no such text in the file")?;
+    if let Some(byte) = bytes.get_mut(at) {
+        *byte ^= 1;
+    }
+    Ok(fs::write(rt, file, &bytes)?)
 }
 
 /// The place of a text in a file's bytes.
@@ -163,28 +122,11 @@ fn place_of(bytes: &[u8], text: &[u8]) -> Option<usize> {
     (0..bytes.len()).find(|&at| bytes[at..].starts_with(text))
 }
 
-/// The first byte of a text in a file gets another bit.
-fn change_byte(rt: &HostRuntime, file: &str, text: &[u8]) -> Result<(), Fail> {
-    let mut bytes = fs::read(rt, file)?;
-    let Some(at) = place_of(&bytes, text) else {
-        return Err("no such text in the file".into());
-    };
-    if let Some(byte) = bytes.get_mut(at) {
-        *byte ^= 1;
-    }
-    fs::write(rt, file, &bytes)?;
-    Ok(())
-}
-
 /// The pages of a new library have sums, so that a card's text with one changed bit is answered by no command.
 #[test]
 fn a_changed_byte_of_a_card_is_found_by_all_commands(rt: HostRuntime) -> Result<(), Fail> {
     let file = library(&rt, "summed")?;
-    take_all(
-        &rt,
-        &file,
-        &[Step::Accepts("1", "quick", "*DECK A\nUNCHANGED\n")],
-    )?;
+    accepts(&rt, &file, "1", "quick", "*DECK A\nUNCHANGED\n")?;
     change_byte(&rt, &file, b"UNCHANGED")?;
     take_all(&rt, &file, &[Step::AllAnswer(NO_LIBRARY)])?;
     remove(&rt, &file)

@@ -1,104 +1,48 @@
 //! `correct` with a deck's listing in place of a library's file. Rules 10.83 to 10.86.
-use crate::console::{answers, answers_of, ask, fresh, is_answer, remove};
-use crate::file_sessions::{NO_LIBRARY, Step, session, take_all};
+use crate::console::{answers, answers_of, fresh, remove};
+use crate::file_sessions::{NO_LIBRARY, Step, Wanted, session_without_file};
 use std::alloc::Global;
 use std::fs;
 use std::test::Fail;
 use upd_testkit::check::holds;
 
-/// The listing of deck A after its two runs.
-const LISTING: &str = "DECK A\nA A.1 *DECK A\nA A.2 ONE\nI A.3 TWO\nA S.1 DEUX\nA A.4 THREE\n";
-
-const EDITED: &str = "*DECK A\nUN\nDEUX\nTHREE\nFOUR\n";
-
-/// The run that corrects the deck is written.
-const CORRECTED: Step<'static> = Step::Answers(
-    "correct",
-    &["T"],
-    EDITED,
-    (0, "*IDENT T\n*DELETE A.2\nUN\n*INSERT A.4\nFOUR\n", ""),
-);
-
-/// A file with the listing.
-fn listing_file(rt: &HostRuntime, name: &str) -> Result<String, Fail> {
-    let file = fresh(rt, name)?;
-    fs::write(rt, file.as_str(), LISTING)?;
-    Ok(file)
-}
-
 #[test]
-fn a_library_corrects_a_deck_that_it_lists(rt: HostRuntime) -> Result<(), Fail> {
+fn libraries_and_listings_correct_decks(rt: HostRuntime) -> Result<(), Fail> {
+    /// The listing of deck A after its two runs.
+    const LISTING: &str = "DECK A\nA A.1 *DECK A\nA A.2 ONE\nI A.3 TWO\nA S.1 DEUX\nA A.4 THREE\n";
+    const LISTED: &[u8] = b"DECK A\nA A.1 *DECK A\nA A.2 ONE\nI A.3 TWO\nA S.1 DEUX\nA A.4 THREE\n";
+    const EDITED: &str = "*DECK A\nUN\nDEUX\nTHREE\nFOUR\n";
+    /// The run that corrects the deck.
+    const RUN: &str = "*IDENT T\n*DELETE A.2\nUN\n*INSERT A.4\nFOUR\n";
+    const CORRECTED: Step<'static> = Step::Answers("correct", &["T"], EDITED, (0, RUN, ""));
+    const OTHER_DECK: &str = "OtherDeck 3:1 this line begins a deck that FILE does not list\n";
+    const NO_DECK: &str = "NoDeck 1:1 no deck begins before this line\n\
+Comment 3:1 a run would drop this line as a comment\n";
+    const RUN_LONG: Wanted<'static> = (1, "", "upd: RunLong (1) at 0\n");
+    const TWO_DECKS: &str = "*DECK A\nONE\n*DECK B\nNEW\n";
+    const AHEAD: &str = "AHEAD\n*DECK A\n*/ C\n";
     const STEPS: &[Step<'_>] = &[
+        Step::New("a library corrects a deck that it lists"),
         Step::Accepts("1", "quick", "*DECK A\nONE\nTWO\nTHREE\n"),
         Step::Accepts("2", "quick", "*IDENT S\n*DELETE A.3\nDEUX\n"),
         Step::Writes("list", &["A"], LISTING),
         CORRECTED,
-        Step::Accepts(
-            "3",
-            "quick",
-            "*IDENT T\n*DELETE A.2\nUN\n*INSERT A.4\nFOUR\n",
-        ),
+        Step::Accepts("3", "quick", RUN),
         Step::Writes("text", &["A"], EDITED),
+        Step::NoFile("at a path without a file"),
+        Step::File("a listing serves as its library does (rule 10.84)", LISTED),
+        CORRECTED,
+        Step::Answers("correct", &["T"], TWO_DECKS, (1, "", OTHER_DECK)),
+        Step::Answers("correct", &["T"], AHEAD, (1, "", NO_DECK)),
+        Step::AnswersLong("correct", &["T"], ("", "X", 4_050_001), RUN_LONG),
+        Step::File(
+            "a SQLite file is opened as a library (rule 10.83)",
+            b"SQLite format 3\0",
+        ),
+        Step::Answers("correct", &["T"], "", NO_LIBRARY),
     ];
-    session(&rt, "listed", STEPS)
+    session_without_file(&rt, "listed", STEPS)
 }
-
-#[test]
-fn a_listing_serves_as_its_library_does(rt: HostRuntime) -> Result<(), Fail> {
-    let listing = listing_file(&rt, "listing")?;
-    take_all(&rt, &listing, &[CORRECTED])?;
-    remove(&rt, &listing)
-}
-
-/// Texts that are refused, and the lines that say why.
-const REFUSED: &[Step<'_>] = &[
-    Step::Answers(
-        "correct",
-        &["T"],
-        "*DECK A\nONE\n*DECK B\nNEW\n",
-        (
-            1,
-            "",
-            "OtherDeck 3:1 this line begins a deck that FILE does not list\n",
-        ),
-    ),
-    Step::Answers(
-        "correct",
-        &["T"],
-        "AHEAD\n*DECK A\n*/ C\n",
-        (
-            1,
-            "",
-            "NoDeck 1:1 no deck begins before this line\n\
-Comment 3:1 a run would drop this line as a comment\n",
-        ),
-    ),
-];
-
-/// A text of this many bytes is refused as too long.
-fn is_too_long(rt: &HostRuntime, file: &str, bytes: usize) -> Result<(), Fail> {
-    let long = vec![in rt.alloc(); b'X'; bytes]?;
-    let found = ask(rt, &["correct", file, "T"], &mut long.as_slice())?;
-    is_answer(&found, (1, "", "upd: RunLong (1) at 0\n"))
-}
-
-#[test]
-fn a_text_is_refused_over_a_listing(rt: HostRuntime) -> Result<(), Fail> {
-    let listing = listing_file(&rt, "refusing")?;
-    take_all(&rt, &listing, REFUSED)?;
-    is_too_long(&rt, &listing, 4_050_001)?;
-    remove(&rt, &listing)
-}
-
-/// Files that are neither a library nor a listing, and the line of each that shows it.
-const NEITHER: &[(&str, &str)] = &[
-    ("{\"at\":0,\"fault\":12,\"name\":\"DeckUnknown\"}", "1"),
-    ("\n", "1"),
-    ("SQLite format 3", "1"),
-    ("DECK YANK$$$\n", "1"),
-    ("DECK A\nA A.1 *DECK A\n1 A deck held\n", "3"),
-    ("DECK A\nA A.1 *DECK A\nA A.2 ON", "3"),
-];
 
 /// A file with this text is refused at this line.
 fn is_neither(rt: &HostRuntime, file: &str, text: &str, line: &str) -> Result<(), Fail> {
@@ -111,6 +55,15 @@ fn is_neither(rt: &HostRuntime, file: &str, text: &str, line: &str) -> Result<()
 
 #[test]
 fn a_file_that_is_neither_is_refused_at_its_line(rt: HostRuntime) -> Result<(), Fail> {
+    /// Files that are neither a library nor a listing, and the line of each that shows it.
+    const NEITHER: &[(&str, &str)] = &[
+        ("{\"at\":0,\"fault\":12,\"name\":\"DeckUnknown\"}", "1"),
+        ("\n", "1"),
+        ("SQLite format 3", "1"),
+        ("DECK YANK$$$\n", "1"),
+        ("DECK A\nA A.1 *DECK A\n1 A deck held\n", "3"),
+        ("DECK A\nA A.1 *DECK A\nA A.2 ON", "3"),
+    ];
     let file = fresh(&rt, "neither")?;
     for (text, line) in NEITHER {
         is_neither(&rt, &file, text, line)?;
@@ -119,18 +72,12 @@ fn a_file_that_is_neither_is_refused_at_its_line(rt: HostRuntime) -> Result<(), 
     remove(&rt, &file)
 }
 
-/// A file with these bytes is opened as a library.
-fn is_opened(rt: &HostRuntime, file: &str, bytes: &[u8]) -> Result<(), Fail> {
-    fs::write(rt, file, bytes)?;
-    answers_of(rt, file, "correct", &["T"], "", NO_LIBRARY)
-}
-
-/// A file that begins as SQLite's do, and one that is longer than any listing, are opened as libraries.
+/// A file that is longer than any listing is opened as a library.
 #[test]
-fn other_files_are_opened_as_libraries(rt: HostRuntime) -> Result<(), Fail> {
+fn a_file_that_is_too_long_is_opened_as_a_library(rt: HostRuntime) -> Result<(), Fail> {
     let file = fresh(&rt, "opened")?;
-    is_opened(&rt, &file, b"SQLite format 3\0")?;
-    is_opened(&rt, &file, &vec![in rt.alloc(); b'\n'; 5_000_026]?)?;
+    fs::write(&rt, file.as_str(), &vec![in rt.alloc(); b'\n'; 5_000_026]?)?;
+    answers_of(&rt, &file, "correct", &["T"], "", NO_LIBRARY)?;
     remove(&rt, &file)
 }
 

@@ -1,6 +1,6 @@
-//! A log whose file was moved away: no command writes over its commits. Rule 10.48.2.
-use crate::console::{fresh, library, remove};
-use crate::file_sessions::{NO_LIBRARY, SILENT, Step, take_all};
+//! A log whose file was moved away: no command writes over its commits. Rules 10.48.2 and 10.48.4.
+use crate::console::{answers, fresh, is_gone, library, remove};
+use crate::file_sessions::{NO_LIBRARY, SILENT, Step, has_bytes, session_without_file, take_all};
 use std::fs;
 use std::fs::Permissions;
 use std::os::unix::fs::PermissionsExt;
@@ -9,22 +9,16 @@ use std::test::Fail;
 use upd_keep::Situation;
 use upd_testkit::check::{holds, same};
 
+const ALONE: &str =
+    "upd: no file, or an empty one, beside a log, FILE-wal, with commits of a library: \
+put the file of that log back, or move the log away\n";
+
 /// What is tried at a path with a log and no library.
 const REFUSED: &[Step<'_>] = &[
     Step::Answers("init", &[], "", NO_LIBRARY),
     Step::AllAnswer(NO_LIBRARY),
     Step::Is(Situation::LogAlone),
-    Step::Answers(
-        "examine",
-        &[],
-        "",
-        (
-            3,
-            "",
-            "upd: no file, or an empty one, beside a log, FILE-wal, with commits of a library: \
-put the file of that log back, or move the log away\n",
-        ),
-    ),
+    Step::Answers("examine", &[], "", (3, "", ALONE)),
 ];
 
 fn log_of(rt: &HostRuntime, file: &str) -> Result<Vec<u8>, Fail> {
@@ -51,7 +45,7 @@ fn a_log_is_kept_until_its_file_is_back(rt: HostRuntime) -> Result<(), Fail> {
     let (file, moved) = (logged(&rt, "lone")?, fresh(&rt, "moved")?);
     fs::rename(&rt, file.as_str(), moved.as_str())?;
     keeps_log(&rt, &file)?;
-    holds("no file is made", !fs::exists(&rt, file.as_str())?)?;
+    is_gone(&rt, &file)?;
     fs::rename(&rt, moved.as_str(), file.as_str())?;
     take_all(&rt, &file, &[Step::Writes("sites", &[], "LYON 3 3 4 0\n")])?;
     remove(&rt, &file)
@@ -62,50 +56,58 @@ fn a_log_beside_an_empty_file_is_kept(rt: HostRuntime) -> Result<(), Fail> {
     let file = logged(&rt, "emptied")?;
     fs::write(&rt, file.as_str(), b"")?;
     keeps_log(&rt, &file)?;
-    holds("an empty file", fs::read(&rt, file.as_str())?.is_empty())?;
+    has_bytes(&rt, &file, b"")?;
     remove(&rt, &file)
 }
 
-/// A library is made where there is a file with these bytes, and a log without a commit.
-fn is_made_over(rt: &HostRuntime, bytes: &[u8]) -> Result<(), Fail> {
-    const MADE: &[Step<'_>] = &[
-        Step::Answers("init", &[], "", SILENT),
-        Step::IsSound("sound: decks 0, cards 0, runs 0, replies 0", false),
+/// A log with this number of bytes is without its file.
+fn is_alone(rt: &HostRuntime, file: &str, bytes: usize, wanted: Situation) -> Result<(), Fail> {
+    let log = format!(in rt.alloc(); "{file}-wal")?;
+    fs::write(rt, log.as_str(), &vec![in rt.alloc(); 0u8; bytes]?)?;
+    take_all(rt, file, &[Step::Is(wanted)])
+}
+
+/// A log has a header of 32 bytes, and each frame one of 24 and a page, which has 512 bytes at least.
+#[test]
+fn a_log_with_the_shortest_frame_is_named(rt: HostRuntime) -> Result<(), Fail> {
+    let file = fresh(&rt, "shortest")?;
+    is_alone(&rt, &file, 567, Situation::NoFile)?;
+    is_alone(&rt, &file, 568, Situation::LogAlone)?;
+    remove(&rt, &file)
+}
+
+const MADE: Step<'static> = Step::Answers("init", &[], "", SILENT);
+
+#[test]
+fn a_library_is_made_over_what_init_leaves(rt: HostRuntime) -> Result<(), Fail> {
+    const LINE: &str = "sound: decks 0, cards 0, runs 0, replies 0";
+    /// A log without a commit is beside each file. An `init` that was killed before it wrote the first page leaves a
+    /// file that is empty, or one byte of 0.
+    const BESIDE_ENDED_LOG: &[Step<'_>] = &[
+        Step::New("after a killed init"),
+        Step::File("a library is made over an empty file", b""),
+        MADE,
+        Step::IsSound(LINE, false),
+        Step::New("after a killed init"),
+        Step::File("a library is made over one byte of 0", b"\0"),
+        MADE,
+        Step::IsSound(LINE, false),
+        Step::New("beside the log of a library"),
+        Step::File("no library is made over somebody's letter", b"x"),
+        Step::Answers("init", &[], "", NO_LIBRARY),
+        Step::Has(b"x"),
     ];
-    let file = library(rt, "ended")?;
-    fs::write(rt, file.as_str(), bytes)?;
-    take_all(rt, &file, MADE)?;
-    remove(rt, &file)
-}
-
-/// What `init` leaves that was killed before it wrote the first page: a file that is empty, or one byte of 0.
-#[test]
-fn a_library_is_made_after_a_killed_init(rt: HostRuntime) -> Result<(), Fail> {
-    is_made_over(&rt, b"")?;
-    is_made_over(&rt, b"\0")
-}
-
-/// A file of one byte that `init` never leaves is somebody's.
-#[test]
-fn no_library_is_made_over_a_letter(rt: HostRuntime) -> Result<(), Fail> {
-    const REFUSED: &[Step<'_>] = &[Step::Answers("init", &[], "", NO_LIBRARY)];
-    let file = library(&rt, "letter")?;
-    fs::write(&rt, file.as_str(), b"x")?;
-    take_all(&rt, &file, REFUSED)?;
-    let kept = fs::read(&rt, file.as_str())?;
-    holds("the letter", kept.as_slice() == b"x".as_slice())?;
-    remove(&rt, &file)
+    session_without_file(&rt, "ended", BESIDE_ENDED_LOG)
 }
 
 /// A log that was left beside a new file is nobody else's to read.
 #[test]
 fn a_left_log_is_closed_to_others(rt: HostRuntime) -> Result<(), Fail> {
-    const MADE: &[Step<'_>] = &[Step::Answers("init", &[], "", SILENT)];
     let file = fresh(&rt, "left")?;
     let log = format!(in rt.alloc(); "{}-wal", file.as_str())?;
     fs::write(&rt, log.as_str(), b"")?;
     fs::set_permissions(&rt, log.as_str(), Permissions::from_mode(0o644))?;
-    take_all(&rt, &file, MADE)?;
+    take_all(&rt, &file, &[MADE])?;
     let mode = fs::metadata(&rt, log.as_str())?.permissions().mode();
     same("the rights", mode & 0o777, 0o600)?;
     remove(&rt, &file)
@@ -114,15 +116,13 @@ fn a_left_log_is_closed_to_others(rt: HostRuntime) -> Result<(), Fail> {
 /// Where there is no room for the name of a journal, no file is made.
 #[test]
 fn no_library_is_made_under_a_long_name(rt: HostRuntime) -> Result<(), Fail> {
-    const REFUSED: &[Step<'_>] = &[Step::Answers("init", &[], "", NO_LIBRARY)];
-    const MADE: &[Step<'_>] = &[Step::Answers("init", &[], "", SILENT)];
     let file = fresh(&rt, "long")?;
     let short = Path::new(file.as_str()).file_name().map_or(0, str::len);
     let more = "n".repeat(rt.alloc(), 247usize.saturating_sub(short))?;
     let name = format!(in rt.alloc(); "{}{}", file.as_str(), more.as_str())?;
     let long = format!(in rt.alloc(); "{}n", name.as_str())?;
-    take_all(&rt, &long, REFUSED)?;
-    holds("no file", !fs::exists(&rt, long.as_str())?)?;
-    take_all(&rt, &name, MADE)?;
+    answers(&rt, &["init", &long], "", NO_LIBRARY)?;
+    is_gone(&rt, &long)?;
+    take_all(&rt, &name, &[MADE])?;
     remove(&rt, &name)
 }

@@ -1,6 +1,6 @@
 //! Where `serve` and `serve-local` listen, as they say: their fault stream is a client that connects there and asks.
 //! Rules 10.51.2 to 10.51.4.
-use crate::console::{answers, library, remove};
+use crate::console::{answers, is_gone, library, remove};
 use std::alloc::Global;
 use std::io::{ErrorKind, Read, Write};
 use std::net::{Shutdown, TcpStream};
@@ -12,11 +12,11 @@ use std::{fs, io};
 use upd_cli::run_command;
 use upd_testkit::check::{holds, same, same_text};
 
-const IDENTS: &str = "GET /idents HTTP/1.1\r\n\r\n";
-
-/// The answer of a library without decks, by the rules of HTTP.
-const NO_IDENTS: &str =
-    "HTTP/1.1 200 OK\r\nContent-Type: text/plain\r\nContent-Length: 0\r\nConnection: close\r\n\r\n";
+/// A request, and the answer of a library without decks, by the rules of HTTP.
+const IDENTS: (&str, &str) = (
+    "GET /idents HTTP/1.1\r\n\r\n",
+    "HTTP/1.1 200 OK\r\nContent-Type: text/plain\r\nContent-Length: 0\r\nConnection: close\r\n\r\n",
+);
 
 /// A client, and the address or the path that it has reached.
 #[derive(Drop)]
@@ -82,14 +82,15 @@ impl Write for Caller<'_> {
 /// A command at a free port.
 const FREE: (&str, &str) = ("serve", "127.0.0.1:0");
 
-/// What is written where a command takes one connection at a place, and the client that it served.
+/// What is written where a command takes one connection at a place, and the place that its client reached. The client
+/// reads this answer to the end.
 fn served(
     rt: &HostRuntime,
     file: &str,
     (command, place): (&str, &str),
-    request: &str,
+    (request, wanted): (&str, &str),
     is_broken: bool,
-) -> Result<(Vec<u8>, Client), Fail> {
+) -> Result<(Vec<u8>, String), Fail> {
     let words = ["upd", command, file, place, "1"];
     let mut output = Vec::new(rt.alloc());
     let mut caller = Caller {
@@ -107,27 +108,32 @@ fn served(
         client,
         ..
     } = caller;
-    Ok((written, client.ok_or("no client")?))
+    Ok((
+        written,
+        is_answered(rt.alloc(), client.ok_or("no client")?, wanted)?,
+    ))
 }
 
-/// What a client reads to the end is this.
-fn is_answered(alloc: Global, mut client: Client, wanted: &str) -> Result<(), Fail> {
+/// What a client reads to the end is this. Its place is returned.
+fn is_answered(alloc: Global, client: Client, wanted: &str) -> Result<String, Fail> {
+    let Client { mut stream, place } = client;
     let mut answer = Vec::new(alloc);
-    client.stream.read_to_end(&mut answer)?;
-    same_text("the answer", std::str::from_utf8(&answer)?, wanted)
+    stream.read_to_end(&mut answer)?;
+    same_text("the answer", std::str::from_utf8(&answer)?, wanted)?;
+    Ok(place)
 }
 
 /// `serve` answers a request by this.
 pub fn serves(rt: &HostRuntime, file: &str, request: &str, wanted: &str) -> Result<(), Fail> {
-    let (_, client) = served(rt, file, FREE, request, false)?;
-    is_answered(rt.alloc(), client, wanted)
+    served(rt, file, FREE, (request, wanted), false)?;
+    Ok(())
 }
 
-/// What is written is the line with a client's place, and then this line up to the milliseconds.
-fn is_line_of(alloc: Global, written: &[u8], client: &Client, wanted: &str) -> Result<(), Fail> {
+/// What is written is the line with a client's place, and then the line of its connection, up to the milliseconds.
+fn is_line_of(alloc: Global, written: &[u8], place: &str) -> Result<(), Fail> {
     let text = std::str::from_utf8(written)?;
     let (lines, millis) = text.rsplit_once(' ').ok_or("no blank")?;
-    let wanted = format!(in alloc; "upd: listening on {}\n{wanted}", client.place)?;
+    let wanted = format!(in alloc; "upd: listening on {place}\n{}", ASKED)?;
     same_text("the faults", lines, &wanted)?;
     let digits = millis.strip_suffix("ms\n").ok_or("no milliseconds")?;
     holds("a number", digits.parse::<u64>().is_ok())
@@ -136,36 +142,27 @@ fn is_line_of(alloc: Global, written: &[u8], client: &Client, wanted: &str) -> R
 /// The line of a connection, up to the milliseconds.
 const ASKED: &str = "upd: GET /idents - - 200 ok 24 83";
 
-/// A client is answered at the port that the line has, which isn't the 0 of the command line.
+/// A client is answered at the port that the line has, which isn't the 0 of the command line. `serve` goes on where its
+/// line is not taken.
 #[test]
 fn the_line_of_serve_has_the_port_where_clients_are_answered(rt: HostRuntime) -> Result<(), Fail> {
     let file = library(&rt, "listening")?;
-    let (written, client) = served(&rt, &file, FREE, IDENTS, false)?;
-    is_line_of(rt.alloc(), &written, &client, ASKED)?;
-    is_answered(rt.alloc(), client, NO_IDENTS)?;
-    remove(&rt, &file)
-}
-
-#[test]
-fn serve_goes_on_where_its_line_is_not_taken(rt: HostRuntime) -> Result<(), Fail> {
-    let file = library(&rt, "unheard")?;
-    let (written, client) = served(&rt, &file, FREE, IDENTS, true)?;
+    let (written, place) = served(&rt, &file, FREE, IDENTS, false)?;
+    is_line_of(rt.alloc(), &written, &place)?;
+    let (written, _) = served(&rt, &file, FREE, IDENTS, true)?;
     same("bytes written", written.len(), 0)?;
-    is_answered(rt.alloc(), client, NO_IDENTS)?;
     remove(&rt, &file)
 }
 
 /// A client at a path is answered. The owner's socket is left there, and nothing else of how it was made.
 fn is_served_at(rt: &HostRuntime, file: &str, path: &str) -> Result<(), Fail> {
-    let (written, client) = served(rt, file, ("serve-local", path), IDENTS, false)?;
-    same_text("the path", &client.place, path)?;
-    is_line_of(rt.alloc(), &written, &client, ASKED)?;
-    is_answered(rt.alloc(), client, NO_IDENTS)?;
+    let (written, place) = served(rt, file, ("serve-local", path), IDENTS, false)?;
+    same_text("the path", &place, path)?;
+    is_line_of(rt.alloc(), &written, &place)?;
     let found = fs::symlink_metadata(rt, path)?;
     let (is_socket, mode) = (found.file_type().is_socket(), found.mode() & 0o777);
     same("a socket, its mode", (is_socket, mode), (true, 0o600))?;
-    let folder = format!(in rt.alloc(); "{path}.new")?;
-    holds("no folder", !fs::exists(rt, folder.as_str())?)
+    is_gone(rt, &format!(in rt.alloc(); "{path}.new")?)
 }
 
 /// What a server leaves that is killed while it makes its socket.

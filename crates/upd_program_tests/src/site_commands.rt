@@ -1,98 +1,71 @@
 //! What sites do with a library: they make it, send runs, settle, and ask.
 use crate::console::{fresh, library, remove};
-use crate::file_sessions::{Step, Wanted, session, take_all};
+use crate::file_sessions::{Step, Wanted, session_without_file, take_all};
 use std::test::Fail;
 
 const DECK: &str = "*DECK A\nONE\nTWO\nTHREE\n";
 
-const EMPTY_REPLY: &str =
-    "{\"compile\":\"\",\"idents\":[],\"lines\":0,\"mode\":\"quick\",\"run\":1,\"site\":\"LYON\",\
+#[test]
+fn sites_send_settle_and_ask(rt: HostRuntime) -> Result<(), Fail> {
+    const EMPTY_REPLY: &str =
+        "{\"compile\":\"\",\"idents\":[],\"lines\":0,\"mode\":\"quick\",\"run\":1,\"site\":\"LYON\",\
 \"state\":\"accepted\"}\n";
-
-/// Run 1 of LYON arrives, which has no cards.
-const EMPTY_RUN: Step<'static> = Step::Answers(
-    "run",
-    &["LYON", "1", "quick"],
-    "",
-    (0, EMPTY_REPLY, ""),
-);
-
-#[test]
-fn a_run_acts_once(rt: HostRuntime) -> Result<(), Fail> {
+    /// Of run 1 of LYON, which has no cards.
+    const EMPTY: Wanted<'static> = (0, EMPTY_REPLY, "");
+    const CUT: Wanted<'static> = (1, EMPTY_REPLY, "upd: CutFrame (31) at 2\n");
     const CHANGED: &str = "{\"at\":0,\"fault\":26,\"name\":\"RunChanged\"}\n";
-    const STEPS: &[Step<'_>] = &[
-        EMPTY_RUN,
-        EMPTY_RUN,
-        Step::Answers("run", &["LYON", "1", "full"], "", (1, CHANGED, "")),
-    ];
-    session(&rt, "once", STEPS)
-}
-
-#[test]
-fn a_refusal_is_repeated(rt: HostRuntime) -> Result<(), Fail> {
-    const REPLY: &str =
+    const SECOND: Wanted<'static> = (
+        1,
         "{\"at\":1,\"fault\":9,\"mode\":\"full\",\"name\":\"TextNowhere\",\"run\":2,\"site\":\"LYON\",\
-\"state\":\"refused\"}\n";
-    const REFUSED: Step<'_> = Step::Answers(
-        "run",
-        &["LYON", "2", "full"],
-        "HELLO\n",
-        (1, REPLY, ""),
+\"state\":\"refused\"}\n",
+        "",
     );
-    session(&rt, "refused", &[REFUSED, REFUSED])
-}
-
-/// A mark never falls.
-#[test]
-fn settled_runs_are_refused(rt: HostRuntime) -> Result<(), Fail> {
     const SETTLED: &str = "{\"at\":0,\"fault\":27,\"name\":\"Settled\"}\n";
-    const STEPS: &[Step<'_>] = &[
-        EMPTY_RUN,
-        Step::Writes(
-            "settle",
-            &["LYON", "1"],
-            "{\"settled\":1,\"site\":\"LYON\"}\n",
-        ),
-        Step::Writes(
-            "settle",
-            &["LYON", "12"],
-            "{\"settled\":12,\"site\":\"LYON\"}\n",
-        ),
-        Step::Writes(
-            "settle",
-            &["LYON", "3"],
-            "{\"settled\":12,\"site\":\"LYON\"}\n",
-        ),
-        Step::Answers("run", &["LYON", "1", "quick"], "", (1, SETTLED, "")),
-    ];
-    session(&rt, "settled", STEPS)
-}
-
-const COMPILED: &str =
-    "ONE                                                                              A             2\n";
-
-#[test]
-fn queries_are_answered(rt: HostRuntime) -> Result<(), Fail> {
+    const COMPILED: &str =
+        "ONE                                                                              A             2\n";
     const HISTORY: &str = "CARD A.2\nDECK A\nTEXT ONE\nSTATUS active\nENTRY A on\n";
+    const TENTH: Wanted<'static> = (
+        1,
+        "{\"at\":1,\"fault\":9,\"mode\":\"full\",\"name\":\"TextNowhere\",\"run\":10,\"site\":\"LYON\",\
+\"state\":\"refused\"}\n",
+        "",
+    );
+    const RUNS: &str = "LYON 9 quick accepted A\nLYON 10 full TextNowhere\n";
+    const SITES: &str = "LYON 0 10 11 217\nOSLO 999999998 999999998 999999999 0\n";
     const STEPS: &[Step<'_>] = &[
+        Step::New("a run acts once (rules 10.5 and 10.6)"),
+        Step::Answers("run", &["LYON", "1", "quick"], "", EMPTY),
+        Step::Answers("run", &["LYON", "1", "quick"], "", EMPTY),
+        Step::Answers("run", &["LYON", "1", "full"], "", (1, CHANGED, "")),
+        Step::New("a refusal is repeated (rule 10.9)"),
+        Step::Answers("run", &["LYON", "2", "full"], "HELLO\n", SECOND),
+        Step::Answers("run", &["LYON", "2", "full"], "HELLO\n", SECOND),
+        Step::New("settled runs are refused, and a mark never falls (rules 10.8 and 10.15)"),
+        Step::Answers("run", &["LYON", "1", "quick"], "", EMPTY),
+        Step::Settles("LYON", "1", "1"),
+        Step::Settles("LYON", "12", "12"),
+        Step::Settles("LYON", "3", "12"),
+        Step::Answers("run", &["LYON", "1", "quick"], "", (1, SETTLED, "")),
+        Step::New("queries are answered (rule 10.18)"),
         Step::Accepts("1", "full", "*DECK A\nONE\n"),
         Step::Writes("list", &["A"], "DECK A\nA A.1 *DECK A\nA A.2 ONE\n"),
         Step::Writes("history", &["A.2"], HISTORY),
         Step::Writes("idents", &[], "1 A deck held\n"),
         Step::Writes("yanks", &[], ""),
         Step::Writes("compile", &[], COMPILED),
-    ];
-    session(&rt, "asked", STEPS)
-}
-
-#[test]
-fn a_spool_is_answered_line_by_line(rt: HostRuntime) -> Result<(), Fail> {
-    const CUT: Wanted<'_> = (1, EMPTY_REPLY, "upd: CutFrame (31) at 2\n");
-    const STEPS: &[Step<'_>] = &[
+        Step::New("a spool is answered line by line (rule 10.43)"),
         Step::Answers("spool", &[], "RUN LYON 1 quick 0\n\nRUN LYON", CUT),
-        Step::Answers("spool", &[], "RUN LYON 1 quick 0\n\n", (0, EMPTY_REPLY, "")),
+        Step::Answers("spool", &[], "RUN LYON 1 quick 0\n\n", EMPTY),
+        Step::New("stored runs and sites are listed (rules 10.78 and 10.79)"),
+        Step::Writes("runs", &[], ""),
+        Step::Writes("sites", &[], ""),
+        Step::Accepts("9", "quick", DECK),
+        Step::Answers("run", &["LYON", "10", "full"], "HELLO\n", TENTH),
+        Step::Settles("OSLO", "999999998", "999999998"),
+        Step::Writes("runs", &[], RUNS),
+        Step::Writes("sites", &[], SITES),
     ];
-    session(&rt, "spool", STEPS)
+    session_without_file(&rt, "sites", STEPS)
 }
 
 /// A file of the current schema becomes one of the second by these changes: that has no table of marks.
@@ -100,35 +73,6 @@ pub const NO_MARKS: Step<'static> = Step::Changes("DROP TABLE settled");
 
 /// See `NO_MARKS`.
 pub const SECOND_SCHEMA: Step<'static> = Step::Changes("UPDATE meta SET v = 2");
-
-#[test]
-fn stored_runs_and_sites_are_listed(rt: HostRuntime) -> Result<(), Fail> {
-    const REPLY: &str =
-        "{\"at\":1,\"fault\":9,\"mode\":\"full\",\"name\":\"TextNowhere\",\"run\":10,\"site\":\"LYON\",\
-\"state\":\"refused\"}\n";
-    const STEPS: &[Step<'_>] = &[
-        Step::Writes("runs", &[], ""),
-        Step::Writes("sites", &[], ""),
-        Step::Accepts("9", "quick", DECK),
-        Step::Answers("run", &["LYON", "10", "full"], "HELLO\n", (1, REPLY, "")),
-        Step::Writes(
-            "settle",
-            &["OSLO", "999999998"],
-            "{\"settled\":999999998,\"site\":\"OSLO\"}\n",
-        ),
-        Step::Writes(
-            "runs",
-            &[],
-            "LYON 9 quick accepted A\nLYON 10 full TextNowhere\n",
-        ),
-        Step::Writes(
-            "sites",
-            &[],
-            "LYON 0 10 11 217\nOSLO 999999998 999999998 999999999 0\n",
-        ),
-    ];
-    session(&rt, "listed", STEPS)
-}
 
 /// A copy is made once, and the library has the deck and the site.
 fn is_copied(rt: &HostRuntime, file: &str, copy: &str) -> Result<(), Fail> {

@@ -39,15 +39,10 @@ fn rows_of<S: Alter>(alloc: Global, conn: &mut Connection<S>) -> Result<String, 
 fn add_rows(lines: &mut Vec<String>, table: &str, rows: &[Row]) -> Result<(), Fail> {
     for row in rows {
         let mut line = String::from_str(*lines.allocator(), table)?;
-        add_values(&mut line, row)?;
+        for at in 0..row.column_count() {
+            add_value(&mut line, row.get_ref(at)?)?;
+        }
         lines.push(line)?;
-    }
-    Ok(())
-}
-
-fn add_values(line: &mut String, row: &Row) -> Result<(), Fail> {
-    for at in 0..row.column_count() {
-        add_value(line, row.get_ref(at)?)?;
     }
     Ok(())
 }
