@@ -4,7 +4,7 @@
 #     bench/scripts.sh [EXECUTABLE [TOOL..]]     crates/upd/out/upd, unless another one is named; a TOOL, as ksh93 or 'busybox awk', is one of these
 #
 # Under each: bring.sh and tree.sh bring in files with hostile names and bytes and write them back, byte for byte. Two sites put their changes into one
-# library by put.sh, on other lines, on the same one and at the same time, and one twice at once; one adds a file, removes one, changes 2,500 lines, and is
+# library by put.sh, on other lines, on the same one and at the same time, and one twice at once; one adds files, removes one, changes 2,500 lines, and is
 # killed while it sends. edit.sh edits a deck, a line that another site has changed, and files of a tree. An edit of several runs meets what came before its
 # first run, between two of them and after one that got no answer; and idents are purged, or come again, that an edit has seen. Decks go out of use and are
 # purged. site.sh sends a run, and once finds its folder in use. What comes out must be the tree that was put in, and LIST the same under all. Exit status: 0
@@ -81,6 +81,7 @@ try_trees() {
     expect 1 answering "$(sed 's/[\\%]/\\&/g; s/$/\\n/' names | tr -d '\n')" script bring --c --list LIST l.db ROME 1
     expect 0 script bring --c --skip --list LIST l.db ROME 1 <names && cp out spool
     must [ "$(grep -c ': ' err)" -ge 4 ]
+    must [ "$(grep -c ': --c leaves .* as .* since ' err)" -eq 3 ]
     expect 0 "$upd" spool l.db <spool
     rm source/nul.c source/raw.c source/wide.c
     expect 0 script tree l.db tree <LIST
@@ -124,6 +125,10 @@ try_puts() {
     done
     expect 0 script put --yes l.db ROME LIST.ROME rome
     expect 1 answering 'no\n' script put --yes l.db LYON LIST.LYON lyon
+    must grep -qx 'source/long.c:' err
+    must grep -q '^A ROME.* ROME too$' err
+    must [ "$(grep -c ' came after ' err)" -eq "$(grep ' came after ' err | sort -u | grep -c .)" ]
+    must grep -q ' of LYON is not sent. ' err
     expect 0 answering 'yes\n' script put --yes l.db LYON LIST.LYON lyon
     same_tree LYON lyon
     sed 's/line/row/' lyon/source/long.c >new && cat new >lyon/source/long.c
@@ -142,6 +147,8 @@ try_puts() {
 try_edits() {
     printf '*DECK A\nONE\nTWO\n' >run
     expect 0 "$upd" run l.db PARIS 1 quick <run
+    expect 1 script edit l.db PARIS NODECK
+    must grep -q 'NODECK: .*DeckUnknown' err
     expect 0 env EDITOR="sed -i -e 's/TWO/two words/'" sh -c 'echo yes | sh "$0" -m "why not" l.db PARIS A' "$root/examples/edit.sh"
     must grep -qx '\*/ why not' out
     must [ "$("$upd" text l.db A | tail -n 1)" = 'two words' ]
@@ -260,12 +267,47 @@ EOF
     same_text
     expect 0 script put --yes p.db LYON LIST.P parts
     same_text
+    make_parts
+    second_time "printf '*DECK LYON32\\n' | $upd run p.db OSLO 1 quick >reply"
+    UPD=$work/$count/meddling expect 1 script put --yes p.db LYON LIST.P parts
+    must grep -q 'NameTaken' err
+    must grep -q '\*YANK LYON31, then remove LIST.P.put, and start' err
+    must [ "$(grep -c 'send the rest' err)" -eq 0 ]
+    printf '*IDENT BACK\n*YANK LYON31\n' >run
+    expect 0 "$upd" run p.db LYON 5 quick <run
+    rm -r LIST.P.put
+    expect 0 script put --yes p.db LYON LIST.P parts
+    same_text
 }
 
 same_text() {
     "$upd" text p.db A | tail -n +2 >held_text
     must cmp held_text parts/a.txt
     must [ "$(wc -l <parts/a.txt)" -eq 2200 ]
+}
+
+# New files, by their paths from FOLDER or from here, and with a message. What is not in FOLDER is refused before anything is sent.
+try_news() {
+    rm -rf p.db p.db-wal parts LIST.P now && oslo_number=0
+    expect 0 "$upd" init p.db
+    oslo '*DECK NEW\nby OSLO\n'
+    mkdir -p parts/in parts/parts && : >LIST.P
+    for new in a.c in/b.c c.c parts/c.c new.c; do echo "$new" >"parts/$new"; done
+    awk 'BEGIN { for (i = 1; i <= 4000; i++) print "line " i }' >parts/long.c
+    for new in "$(pwd)/run" ../run parts/../run; do
+        expect 1 script put --yes p.db LYON LIST.P parts a.c "$new"
+        must grep -qxF "put.sh: $new is not in parts" err
+    done
+    must [ "$("$upd" idents p.db | wc -l)" -eq 1 ]
+    expect 0 script put --yes -m 'why new' p.db LYON LIST.P ./parts a.c "$(pwd)/parts/in/b.c" parts/c.c parts//new.c in/../long.c
+    must grep -q 'has a deck NEW that LIST' err
+    must [ "$(sed -n 's/^path //p' LIST.P | tr '\n' ' ')" = 'a.c in/b.c parts/c.c new.c long.c ' ]
+    must [ "$("$upd" runs p.db | grep -c ' # why new$')" -eq 7 ]
+    echo more >>parts/in/b.c
+    expect 0 script put --yes p.db LYON LIST.P parts c.c
+    must [ "$("$upd" text p.db B | tail -n 1)" = more ]
+    expect 0 script tree p.db now <LIST.P
+    must diff -r parts now
 }
 
 # Idents that are purged after a text was taken, and names that come again.
@@ -390,6 +432,7 @@ try_tools() {
     try_edits
     try_beside
     try_parts
+    try_news
     try_purges
     try_decks
     try_yanks

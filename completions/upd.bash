@@ -17,7 +17,7 @@ complete -F _upd upd
 _upd_script() {
     local word=${COMP_WORDS[COMP_CWORD]} options="" place=1 at
     case ${COMP_WORDS[0]##*/} in
-        upd-bring) options="--c --skip --list" ;;
+        upd-bring) options="--c --skip --list -m" ;;
         upd-tree) options="--list" ;;
         upd-edit) options="--mode --set --list -m" ;;
         upd-put) options="--c --gone --yes --mode -m" ;;

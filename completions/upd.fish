@@ -66,6 +66,7 @@ end
 complete -c upd-bring -l c -d 'make C and other texts fit'
 complete -c upd-bring -l skip -d 'leave out files that do not fit'
 complete -c upd-bring -l list -r -F -d 'note what was changed'
+complete -c upd-bring -s m -x -d 'what the runs are for'
 complete -c upd-tree -l list -r -F -d 'make a tree to edit, and note it'
 complete -c upd-edit -l mode -x -a 'full quick normal' -d 'the mode of the run'
 complete -c upd-edit -l set -x -d 'the name of the set'

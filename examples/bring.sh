@@ -4,7 +4,7 @@
 #     find source -name '*.f' | sort | bring.sh FILE SITE NUMBER > source.spool
 #     upd spool FILE < source.spool
 #
-#     bring.sh [--c] [--skip] [--list LIST] FILE SITE NUMBER
+#     bring.sh [--c] [--skip] [--list LIST] [-m MESSAGE] FILE SITE NUMBER
 #
 # Standard input names the source files, one a line. FILE is the library; it is read for the names in use, and copied, and no
 # command may have it open. The runs are of SITE, and numbered from NUMBER on. UPD is the program (`upd` unless it is set).
@@ -22,6 +22,7 @@
 #                   left out. A LIST that is there is kept, and has no path twice.
 #     --c           with --list: the files are made to fit, C or any other text. What is C keeps its meaning. The first lines of
 #                   cards.sh say what is changed.
+#     -m MESSAGE    what the runs are for, at most 77 bytes: their first line, as a comment
 #
 # Before the spool is written, it is tried on a copy of FILE, which has to accept each run, and on an empty library: tree.sh
 # writes each file back, and each is compared with its source. tree.sh, cards.sh and common.sh are in this script's folder.
@@ -38,11 +39,11 @@ for common in "$(dirname -- "$0")/common.sh" "$(dirname -- "$0")/upd-common"; do
 . "$common" || exit 3
 
 usage() {
-    say "usage: ${0##*/} [--c] [--skip] [--list LIST] FILE SITE NUMBER < names-of-source-files; --c asks for --list"
+    say "usage: ${0##*/} [--c] [--skip] [--list LIST] [-m MESSAGE] FILE SITE NUMBER < names-of-source-files; --c asks for --list"
     exit 2
 }
 
-c='' skip='' list=''
+c='' skip='' list='' message=''
 while [ $# -gt 0 ]; do
     case $1 in
     --c) c=1 ;;
@@ -50,6 +51,11 @@ while [ $# -gt 0 ]; do
     --list)
         [ -n "${2-}" ] || usage
         list=$2
+        shift
+        ;;
+    -m)
+        [ $# -gt 1 ] || usage
+        message=$2
         shift
         ;;
     --)
@@ -63,14 +69,12 @@ while [ $# -gt 0 ]; do
 done
 [ $# -eq 3 ] || usage
 [ -z "$c" ] || [ -n "$list" ] || usage
-case $2 in
-'' | *[!A-Z0-9]* | ?????????*) usage ;;
-esac
 case $3 in
 '' | 0* | *[!0-9]* | ??????????*) usage ;;
 esac
-library=$1 site=$2 number=$3
+library=$1 site=$2 number=$3 mode=quick
 upd=${UPD:-upd} files=0 unfit=0
+check_words
 
 tree=$(script tree) && cards=$(script cards) || exit 3
 
@@ -78,6 +82,7 @@ work=$(mktemp -d) || exit 3
 trap 'rm -rf "$work"' EXIT
 trap 'exit 3' HUP INT TERM
 spool=$work/spool added=$work/added taken=$work/taken
+if [ -n "$message" ]; then printf '*/ %s\n' "$message"; fi >"$work/message" || exit 3
 : >"$spool" && : >"$added" && : >"$work/list" && : >"$work/report" || exit 3
 "$upd" init "$work/empty" || exit 3
 "$upd" idents -- "$library" >"$work/idents" || exit 3
@@ -115,18 +120,18 @@ wanted_name() {
     printf '%s\n' "${base%%.*}" | tr '[:lower:]' '[:upper:]' | tr -c 'A-Z0-9+*/()$=\n-' '-' | cut -c 1-9 | sed 's/^$/-/'
 }
 
-# Cuts the cards into parts that each fit into a run with two more lines, as FOLDER/1, FOLDER/2 and so on.
+# Cuts the cards into parts that each fit into a run with two more lines and a message, as FOLDER/1, FOLDER/2 and so on.
 cut_cards() {
     awk -v folder="$1" '
         BEGIN { part = folder "/" ++parts; printf "" > part }
-        lines == 1998 || bytes + length($0) > 65400 { close(part); part = folder "/" ++parts; lines = bytes = 0 }
+        lines == 1997 || bytes + length($0) > 65400 { close(part); part = folder "/" ++parts; lines = bytes = 0 }
         { print > part; lines++; bytes += length($0) + 1 }' "$work/cards"
 }
 
-# Appends a run to the spool, as a frame.
+# Appends a run to the spool, as a frame, with the message first.
 add_run() {
     {
-        printf 'RUN %s %s quick %s\n' "$site" "$number" "$(($(wc -c <"$1")))" && cat "$1" && echo
+        printf 'RUN %s %s %s %s\n' "$site" "$number" "$mode" "$(($(cat "$work/message" "$1" | wc -c)))" && cat "$work/message" "$1" && echo
     } >>"$spool" || exit 3
     number=$((number + 1))
 }
@@ -182,6 +187,9 @@ add_file() {
     runs="run $first"
     if [ $((number - first)) -gt 1 ]; then runs="runs $first to $((number - 1))"; fi
     say "$1 is the deck $2, $runs" 2>>"$work/report"
+    if [ -n "$list" ] && [ "$2" != "$wanted" ] && grep -qF -e " $wanted deck held" "$work/idents" && ! grep -qxF -e "deck $wanted" "$work/old" "$work/list"; then
+        say "the library has a deck $wanted that LIST doesn't have: is it this file, of another tree?" 2>>"$work/report"
+    fi
     printf '%s\n%s\n' "$(inner_path "$1")" "$1" >>"$added"
 }
 
@@ -216,8 +224,11 @@ while IFS= read -r file || [ -n "$file" ]; do
     fi
 done
 if [ "$unfit" -gt 0 ]; then
+    if [ -z "$skip" ]; then
+        say "$unfit of $files files don't fit: ${0##*/} --skip leaves them out"
+        exit 1
+    fi
     say "$unfit of $files files don't fit"
-    [ -n "$skip" ] || exit 1
 fi
 
 # Sends the spool to a library, which has to accept each run.

@@ -41,21 +41,25 @@ trap 'rm -rf "$work"' EXIT
 trap 'exit 3' HUP INT TERM
 
 # `bytes`, and the octal codes of the bytes that no card has, but for those whose escapes the file has too. Nothing where it has
-# no such byte, or escapes can't stand for them.
+# no such byte, or escapes can't stand for them, as work/why says.
 byte_codes() {
-    if [ $(($(tr -dc '\000' <"$file" | wc -c))) -gt 0 ]; then return; fi
-    awk '
+    if [ $(($(tr -dc '\000' <"$file" | wc -c))) -gt 0 ]; then
+        echo "leaves the bytes of the file as they are, since it has a NUL" >"$work/why"
+        return
+    fi
+    awk -v why="$work/why" '
         BEGIN { for (i = 1; i < 256; i++) code[sprintf("%c", i)] = sprintf("%03o", i) }
         {
             sub(/\r$/, "")
-            if (/\\[^\t\f -~]/ || (/[^\t\f -~]/ && /(^|[^A-Za-z0-9_])(L|U|u8?)["\047]/)) clash = 1
+            if (/\\[^\t\f -~]/) clash = NR " has a backslash before such a byte"
+            else if (/[^\t\f -~]/ && /(^|[^A-Za-z0-9_])(L|U|u8?)["\047]/) clash = NR " has such a byte and a wide or Unicode literal"
             for (text = $0; match(text, /[^\t\f -~]|\\(\\|[0-3][0-7][0-7])/); text = substr(text, RSTART + RLENGTH))
                 if (RLENGTH == 1) needed[code[substr(text, RSTART, 1)]]; else own[substr(text, RSTART + 1, 3)]
         }
         END {
             for (octal in needed) all = "bytes"
             for (i = 1; i < 256; i++) if ((octal = sprintf("%03o", i)) in needed && !(octal in own)) all = all " " octal
-            if (!clash) print all
+            if (clash) print "leaves the bytes of the file as they are, since line " clash > why; else print all
         }' <"$file"
 }
 
@@ -136,12 +140,15 @@ if [ ! -f "$file" ] || [ ! -r "$file" ]; then
     printf '%s: is not a file that can be read\n' "$file" >&2
     exit 1
 fi
-if grep -qE '(^|[^A-Za-z0-9_])(u8|[uUL])?R"[^() \"]{0,16}[(]' <"$file"; then filter=''; fi
+if [ -n "$filter" ] && grep -qE '(^|[^A-Za-z0-9_])(u8|[uUL])?R"[^() \"]{0,16}[(]' <"$file"; then
+    filter='' && echo 'leaves the file as it is, since it has a raw string' >"$work/why" || exit 3
+fi
 if [ -n "$filter" ]; then codes=$(byte_codes) || exit 3; fi
 convert
 check >"$work/problems"
 if [ -s "$work/problems" ]; then
     cat "$work/problems" >&2
+    [ ! -e "$work/why" ] || printf '%s: --c %s\n' "$file" "$(cat "$work/why")" >&2
     exit 1
 fi
 cat "$work/notes" >"$notes" && cat "$work/cards" || exit 3

@@ -96,7 +96,7 @@ ask_message() {
 agreed() {
     while :; do
         printf '%s' "$1" >&2
-        read -r answer || answer=no
+        read -r answer || { answer=no && echo >&2; }
         case $answer,$1 in
         y,*yes* | yes,*yes*) return 0 ;;
         n,* | no,*) return 1 ;;
@@ -214,13 +214,29 @@ look() {
     grep -E ' came after [^ ]*( and is deleted)?$| by yanks after [^ ]*$| was purged and came again: ' "$work/warnings" >"$work/conflicts" || return 0
 }
 
+# Shows the lines of a file that were not shown yet.
+show_new() {
+    awk -v shown="$work/shown" '
+        BEGIN { while ((getline line < shown) > 0) is_shown[line] = 1 }
+        !is_shown[$0]++' "$1" >"$work/unshown" && cat "$work/unshown" >&2 && cat "$work/unshown" >>"$work/shown"
+}
+
+# Shows who switched the cards of a deck that conflicts name, and those beside, and of which file they are.
+show_switched() {
+    tr -c 'A-Z0-9+*/()$=.\n-' '\n' <"$work/conflicts" | grep '^[^.]*[^.]\.[1-9][0-9]*$' | sort -u >"$work/named"
+    ask blame -- "$library" "$1" | file=$2 awk -v cards="$work/named" '
+        BEGIN { while ((getline card < cards) > 0) named[card] }
+        { line[NR] = $0; if ($2 in named) near[NR - 1] = near[NR] = near[NR + 1] = 1 }
+        END { for (i = 1; i <= NR; i++) if (i in near) print (count++ ? "" : ENVIRON["file"] ":\n") line[i] }' >&2
+}
+
 # Sends a run, with its reply to work/reply. Where it or a later one of its edit meets what others have done, only if `over_changes`
 # gives 0. 1 where it is refused, 2 where it can't be looked at, 3 where it is not to be sent, 4 where no answer came.
 send_run() {
     number=${1##*/}
     look "$1" || [ $? -eq 1 ] || return 2
     if [ -s "$work/conflicts" ]; then
-        cat "$work/conflicts" >&2
+        show_new "$work/conflicts"
         over_changes || return 3
         while [ "$part" -gt "$number" ]; do
             part=$((part - 1))
@@ -244,7 +260,7 @@ send_run() {
             return 1
         fi
         sed "s/^upd: \([0-9]*\):/run $number, line \1:/" "$work/faults" >"$work/conflicts"
-        cat "$work/conflicts" >&2
+        show_new "$work/conflicts"
         over_changes || return 3
         now=$(youngest "$library") || exit 3
     done

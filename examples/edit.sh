@@ -87,7 +87,7 @@ trap 'exit 3' HUP INT TERM
 # Takes a deck's text as it was when the ident SINCE was the youngest.
 take() {
     ask text-at -- "$library" "$1" "$since" >"$2.part" || {
-        cat "$work/faults" >&2
+        say "$1: $(cat "$work/faults")"
         exit 1
     }
     printf '%s\n' "$1" >"$2.deck" && cp "$2.part" "$2.txt" && mv "$2.part" "$2.taken" || exit 3
@@ -159,7 +159,7 @@ show() {
         return 1
     fi
     show_runs
-    cat "$work/warnings" >&2
+    rm -f "$work/shown" && show_new "$work/warnings"
 }
 
 show_runs() {
@@ -168,13 +168,7 @@ show_runs() {
 
 # Shows who switched the cards that conflicts name, and those beside, and asks. To edit again is possible before anything is sent.
 over_changes() {
-    tr -c 'A-Z0-9+*/()$=.\n-' '\n' <"$work/conflicts" | grep '^[^.]*[^.]\.[1-9][0-9]*$' | sort -u >"$work/cards"
-    cat "$work"/*.deck | while IFS= read -r name; do
-        ask blame -- "$library" "$name" | awk -v cards="$work/cards" '
-            BEGIN { while ((getline card < cards) > 0) named[card] }
-            { line[NR] = $0; if ($2 in named) near[NR - 1] = near[NR] = near[NR + 1] = 1 }
-            END { for (i = 1; i <= NR; i++) if (i in near) print line[i] }' >&2
-    done
+    for text in "$work"/*.deck; do show_switched "$(cat "$text")" "$(cat "$text")"; done
     if [ -z "$accepted" ]; then agreed "send it over these changes? yes, edit, or no: "; else agreed "send the rest over these changes? yes, or no: "; fi
     answered=$?
     return "$answered"

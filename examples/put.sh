@@ -8,9 +8,10 @@
 # too. After a purge of cards that the file was made from, or of the ident that LIST notes, a file that you changed has to be made
 # again, by `tree.sh --list`, and your changes in it; and one whose deck is purged or out of use stays as it is. What no card has, as
 # blanks at the end of lines, line ends and rights, goes into LIST only. So let FOLDER be a tree of yours, or a release whose decks
-# nobody else corrects. NEW are files that become decks, by bring.sh: their paths in FOLDER. FILE is the library; no command may have
-# it open. The runs are the next ones of SITE, and their sets are named by SITE and the run's number, as LYON7. A file that needs more
-# lines than a run has is corrected by several. UPD is the program (`upd` unless it is set).
+# nobody else corrects. NEW are files of FOLDER that become decks, by bring.sh: their paths from there, or from here. FILE is the
+# library; no command may have it open. The runs are the next ones of SITE, and their sets are named by SITE and the run's number, as
+# LYON7, or a greater one where that name is in use. A file that needs more lines than a run has is corrected by several, as the runs
+# 7 and 8 by LYON71 and LYON72. UPD is the program (`upd` unless it is set).
 #
 # What each run corrects is shown before you are asked. A run is sent by `upd run-at`: where others have changed the same lines
 # meanwhile it is not stored, and you are asked again; of several runs for a file before the first of them is sent.
@@ -24,8 +25,8 @@
 #
 # One put.sh at a time works with LIST, for which LIST.lock is there, by flock. While it sends, LIST.put has the runs. After a
 # kill, or where no answer came, start it again: it sends the same runs first. Where a file needs several runs, and only the
-# first are accepted, LIST.put stays: start it again to send the rest, or yank their sets, which it names, and then remove
-# LIST.put.
+# first are accepted, LIST.put stays: start it again to send the rest. Where one was refused, or you don't want them, yank the
+# sets before it, which are named, and then remove LIST.put.
 #
 # Exit status:
 #   0  all runs are accepted, or nothing was changed
@@ -214,6 +215,31 @@ new_section() {
         }' part=section "$5" part=listing "$6" part=hunks "$7" part=notes "$8"
 }
 
+# A new file's path in FOLDER, from where it is given, or else from here. 1 where FOLDER doesn't have it.
+inner_path() {
+    place=$folder/$1
+    case /$1/ in
+    //*) place=$1 ;;
+    */../*) ;;
+    *)
+        if [ -e "$place" ]; then
+            printf '%s\n' "$1"
+            return
+        fi
+        ;;
+    esac
+    [ -e "$place" ] || place=$1
+    top=$(cd -- "$folder" && pwd -P) || exit 3
+    if [ -e "$place" ]; then place=$(cd -- "$(dirname -- "$place")" && pwd -P)/${place##*/}; fi
+    case $place in
+    "$top"/*) printf '%s\n' "${place#"$top"/}" ;;
+    *)
+        say "$1 is not in $folder"
+        return 1
+        ;;
+    esac
+}
+
 # The rights of a file.
 mode_of() {
     ls -lLd -- "$1" | awk '
@@ -264,6 +290,9 @@ note_run() {
 }
 
 over_changes() {
+    for item in "$put/$last"/*.deck; do
+        show_switched "$(cat "$item")" "$(printf '%b' "$(cat "${item%.deck}.path")")"
+    done
     agreed "send $names over these changes? yes, show or no: "
 }
 
@@ -271,7 +300,8 @@ over_changes() {
 # it they would be sent again.
 send() {
     send_run "$1"
-    case $? in
+    status=$?
+    case $status in
     0)
         say "run $number of $site is accepted"
         sed -n 's/^\*IDENT //p' "$1/run" >>"$work/ours"
@@ -279,6 +309,12 @@ send() {
         return
         ;;
     1) cat "$work/reply" >&2 ;;
+    3)
+        if [ -z "$accepted" ]; then
+            say "run $number of $site is not sent. Say yes next time, and the files get both changes; or first undo yours of these lines,"
+            say "start it again, which brings in theirs, and make yours anew"
+        fi
+        ;;
     4)
         say "run $number of $site has no answer: start it again"
         exit 3
@@ -287,8 +323,9 @@ send() {
     if [ -z "$accepted" ]; then
         rm -rf "$put"
     else
-        say "run $number of $site is not accepted, but the sets before it are: $accepted. Start it again to send the rest;"
-        say "or take them back by a run that yanks them, and only then remove $put"
+        say "run $number of $site is not accepted, but the sets before it are: $accepted"
+        [ "$status" -ne 3 ] || say "start it again to send the rest, or take them back:"
+        say "send a run with *IDENT and *YANK $accepted, then remove $put, and start it again"
     fi
     exit 1
 }
@@ -413,9 +450,12 @@ keep_deck() {
 if [ $# -gt 0 ]; then
     case $library in /*) ;; *) library=$(pwd)/$library ;; esac
     case $bring in /*) ;; *) bring=$(pwd)/$bring ;; esac
-    cp "$list" "$work/list" && printf '%s\n' "$@" >"$work/names" || exit 3
+    unset CDPATH
+    cp "$list" "$work/list" || exit 3
+    for new; do inner_path "$new" || unfit=1; done >"$work/names"
+    [ "$unfit" -eq 0 ] || exit 1
     # shellcheck disable=SC2086 # $c is an option or nothing
-    (cd "$folder" && sh "$bring" $c --list "$work/list" "$copy" "$site" "$number" <"$work/names" >"$work/spool") || exit $?
+    (cd "$folder" && sh "$bring" $c ${message:+-m "$message"} --list "$work/list" "$copy" "$site" "$number" <"$work/names" >"$work/spool") || exit $?
     tail -n +$(($(wc -l <"$list") + 1)) "$work/list" >"$put/list" && cp "$work/spool" "$put/spool" || exit 3
     number=$((number + $(grep -c "^RUN $site [0-9]* quick [0-9]*\$" "$work/spool")))
     sed -n -e 's/^deck //p' -e 's/^part \([^ ]*\) .*/0 \1/p' "$put/list" | sed 's/.*/0 & set held/' >>"$work/held"
@@ -483,12 +523,12 @@ if [ -s "$work/gone" ]; then
     { printf '*IDENT %s\n' "$set" && sed 's/^\([^ ]*\) .*/*YANKDECK \1/' "$work/gone"; } >>"$run/run" || exit 3
     while read -r deck code; do
         deck_count=$((deck_count + 1))
-        printf '%s\n' "$deck" >"$run/$deck_count.deck" || exit 3
+        printf '%s\n' "$deck" >"$run/$deck_count.deck" && printf '%s\n' "$code" >"$run/$deck_count.path" || exit 3
     done <"$work/gone"
 fi
 if [ -n "$(ls "$put")" ]; then
     part=$(ls "$put" | grep '^[1-9][0-9]*$' | sort -n | head -n 1)
-    while [ -e "$put/$part/run" ] && look "$put/$part"; do cat "$work/warnings" >&2; done # of an edit; part is then the next one's first run
+    while [ -e "$put/$part/run" ] && look "$put/$part"; do show_new "$work/warnings"; done # of an edit; part is then the next one's first run
     if [ -z "$yes" ] && ! agreed "send these runs? yes, show or no: "; then exit 1; fi
     printf '%s %s\n' "$site" "$mode" >"$put/readied" && mv "$put/readied" "$put/ready" || exit 3
     send_all
