@@ -183,6 +183,10 @@ def cases(part):
         ("a purge of the last one", purge(ofs[-1:]), b"quick", yes),
         ("a purge of all", purge(ofs), b"quick", yes),
     ]
+    empty = list(in_runs([f"*IDENT {name}"] for name in ofs))
+    all25 = text(["*IDENT W"] + [f"*YANK {ofs[0]}.{ofs[-1]}"] * 25)
+    yield f"{count:,} sets without cards", empty, [("a yank of all, 25 times", all25, b"quick", yes)]
+    yield "the same with it", [*empty, all25], [("a purge of these yanks", purge(["W"]), b"quick", yes)]
     yield "calls 8 deep, 20 in each deck", calling(8, 20), [("a full run", text(["*IDENT W"]), b"full", b"refused")]
 
 
