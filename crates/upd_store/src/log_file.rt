@@ -14,7 +14,11 @@ const SHORTEST_LOG: u64 = 32 + 24 + 512;
 
 /// Whether the log beside a file has frames, so that the file by itself may lack commits. The file may be missing.
 pub fn has_frames(rt: &HostRuntime, path: &str) -> io::Result<bool> {
-    Ok(length_of(rt, log_path(rt, path)?.as_str())? >= SHORTEST_LOG)
+    match fs::metadata(rt, log_path(rt, path)?.as_str()) {
+        Ok(found) => Ok(found.is_file() && found.len() >= SHORTEST_LOG),
+        Err(error) if is_missing(error.kind()) => Ok(false),
+        Err(error) => Err(error),
+    }
 }
 
 /// The path of the log beside a file.
