@@ -4,7 +4,7 @@
 ghost use Rattle.std.specs.Prelude.{◌≡◌, ◌⊎◌, IsTrue};
 ghost use Rattle.upd_store.specs.Exposure.{folder_of, is_open_mode};
 
-use crate::log_file::{is_missing, log_path, real_path};
+use crate::log_file::{log_path, real_path, unless_missing};
 use std::os::unix::fs::MetadataExt;
 use std::path::Path;
 use std::{fs, io};
@@ -77,9 +77,5 @@ fn own_user(rt: &HostRuntime) -> u32 {
 
 /// The owner of what is at a path; None where nothing is.
 fn owner_of(rt: &HostRuntime, path: &str) -> io::Result<Option<u32>> {
-    match fs::metadata(rt, path) {
-        Ok(found) => Ok(Some(found.uid())),
-        Err(error) if is_missing(error.kind()) => Ok(None),
-        Err(error) => Err(error),
-    }
+    Ok(unless_missing(fs::metadata(rt, path))?.map(|found| found.uid()))
 }

@@ -21,7 +21,7 @@ ghost use Rattle.upd_store.specs.Faults.{IsUnopened};
 ghost use Rattle.upd_store.specs.OpenedAgain.{Closes, OpensAgain};
 
 use crate::exposure::{is_exposed, is_foreign_file};
-use crate::log_file::{is_log_in_the_way, log_path};
+use crate::log_file::{has_in_the_way, log_path};
 use crate::sql_store::SqlStore;
 use crate::store_faults::{fault_of, no_memory, store_at};
 use sqlite::{Connection, FileFrom, FileStore, Files, Start};
@@ -96,11 +96,12 @@ pub fn create<S: Start>(rt: &HostRuntime, path: &str, start: S) -> Result<FileLi
     }
 }
 
-/// Store at 0 where a new file would have its log written over frames of another, or could have none.
+/// Store at 0 where a new file would have its log written over frames of another, or could have none, or where a journal is
+/// beside it.
 fn spare_log(rt: &HostRuntime, path: &str) -> Result<(), Fault>
     ensures unopened { IfErr result IsUnopened }
 {
-    match is_log_in_the_way(rt, path) {
+    match has_in_the_way(rt, path) {
         Ok(false) => Ok(()),
         Ok(true) => Err(store_at(0)),
         Err(error) => Err(file_fault(error)),

@@ -1,4 +1,4 @@
-//! The log beside a library's file, as far as it shows without opening either.
+//! The log and the journal beside a library's file, as far as they show without opening the library.
 
 ghost use Rattle.std.specs.Prelude.{◌≡◌, IfOk};
 ghost use Rattle.std.specs.String.{string_bytes};
@@ -6,7 +6,7 @@ ghost use Rattle.upd_store.specs.Exposure.{log_of};
 
 use std::alloc::{AllocError, Global};
 use std::fs::OpenOptions;
-use std::io::ErrorKind;
+use std::io::{ErrorKind, Read};
 use std::{fs, io};
 
 /// The bytes of the shortest log that has a frame: its header, and the header and the page of the frame.
@@ -14,11 +14,8 @@ const SHORTEST_LOG: u64 = 32 + 24 + 512;
 
 /// Whether the log beside a file has frames, so that the file by itself may lack commits. The file may be missing.
 pub fn has_frames(rt: &HostRuntime, path: &str) -> io::Result<bool> {
-    match fs::metadata(rt, log_path(rt, path)?.as_str()) {
-        Ok(found) => Ok(found.is_file() && found.len() >= SHORTEST_LOG),
-        Err(error) if is_missing(error.kind()) => Ok(false),
-        Err(error) => Err(error),
-    }
+    let log = unless_missing(fs::metadata(rt, log_path(rt, path)?.as_str()))?;
+    Ok(log.is_some_and(|found| found.is_file() && found.len() >= SHORTEST_LOG))
 }
 
 /// The path of the log beside a file.
@@ -52,9 +49,23 @@ pub fn is_closed_log(rt: &HostRuntime, path: &str) -> io::Result<bool> {
     }
 }
 
-/// Whether no file may be made at a path for the log that is there: it is alone, or can't be opened.
-pub(crate) fn is_log_in_the_way(rt: &HostRuntime, path: &str) -> io::Result<bool> {
-    Ok(is_log_alone(rt, path)? || is_closed_log(rt, path)?)
+/// Whether no file may be made at a path for what is beside it: a log that is alone or can't be opened, or a journal.
+pub(crate) fn has_in_the_way(rt: &HostRuntime, path: &str) -> io::Result<bool> {
+    Ok(is_log_alone(rt, path)? || is_closed_log(rt, path)? || has_journal(rt, path)?)
+}
+
+/// Whether a journal is beside a file that only SQLite can play back, or something else has its name. An empty one, and one
+/// that begins with a zero, has nothing to play back.
+fn has_journal(rt: &HostRuntime, path: &str) -> io::Result<bool> {
+    let journal = [real_path(rt, path)?.as_str(), "-journal"].concat(rt.alloc())?;
+    match unless_missing(fs::symlink_metadata(rt, journal.as_str()))? {
+        Some(found) if found.is_file() => {
+            let mut first = [0u8; 1];
+            let count = fs::open(rt, journal.as_str())?.read(&mut first)?;
+            Ok(count == 1 && first[0] != 0)
+        }
+        found => Ok(found.is_some()),
+    }
 }
 
 /// Whether there is no file at a path, or an empty one, and the log beside it has frames. They are of a library that was
@@ -69,22 +80,27 @@ pub fn is_log_alone(rt: &HostRuntime, path: &str) -> io::Result<bool> {
 
 /// The path where a link leads, or the path as it is where there is no file.
 pub(crate) fn real_path(rt: &HostRuntime, path: &str) -> io::Result<String> {
-    match fs::canonicalize(rt, path) {
-        Ok(real) => Ok(String::from_str(rt.alloc(), real.as_str())?),
-        Err(error) if is_missing(error.kind()) => Ok(String::from_str(rt.alloc(), path)?),
-        Err(error) => Err(error),
-    }
+    let real = match unless_missing(fs::canonicalize(rt, path))? {
+        Some(real) => String::from_str(rt.alloc(), real.as_str())?,
+        None => String::from_str(rt.alloc(), path)?,
+    };
+    Ok(real)
 }
 
 /// The bytes of a file, 0 where there is none.
 fn length_of(rt: &HostRuntime, path: &str) -> io::Result<u64> {
-    match fs::metadata(rt, path) {
-        Ok(found) => Ok(found.len()),
-        Err(error) if is_missing(error.kind()) => Ok(0),
+    Ok(unless_missing(fs::metadata(rt, path))?.map_or(0, |found| found.len()))
+}
+
+/// What was asked of a path; None where nothing is there.
+pub(crate) fn unless_missing<T: Drop>(asked: io::Result<T>) -> io::Result<Option<T>> {
+    match asked {
+        Ok(found) => Ok(Some(found)),
+        Err(error) if is_missing(error.kind()) => Ok(None),
         Err(error) => Err(error),
     }
 }
 
-pub(crate) fn is_missing(kind: ErrorKind) -> bool {
+fn is_missing(kind: ErrorKind) -> bool {
     kind == ErrorKind::NotFound || kind == ErrorKind::NotADirectory
 }
