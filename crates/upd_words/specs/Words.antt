@@ -3,7 +3,7 @@ use Rattle.std.specs.Prelude.{◌≡◌, ◌≢◌, ℕ, ◌≤◌, ◌⊎◌, �
 use Rattle.std.specs.Str.Parse.{IsNumeral, digits_value, without_leading_plus}
 use Rattle.std.specs.Option.{option_and_then, option_map}
 use Rattle.clap.specs.Simple.{new_shape}
-use Rattle.clap.specs.Words.{App, IsAmong, Row, Rule, Shape, Text, fault_of, first_of, new_app, new_rule, subcommand_of}
+use Rattle.clap.specs.Words.{App, IsAmong, Row, Rule, Shape, Text, fault_of, first_of, new_app, new_rule, subcommand_of, with_subcommand}
 use Rattle.clap.specs.declared.builder.action.ArgAction.TheVariants.{Set}
 use Rattle.clap.specs.declared.builder.value_parser.ValueParser.{ValueParser}
 use Rattle.clap.specs.declared.builder.value_parser.ValueParser.TheVariants.{String, Unsigned}
@@ -13,6 +13,7 @@ use Rattle.upd_text.specs.declared.fault.Fault.{Fault}
 use Rattle.upd_text.specs.declared.fault.FaultKind.TheVariants.{NoMemory}
 use Rattle.std.specs.Net.Grammar.{IsSocketText}
 use Rattle.upd_words.specs.Operands.{IsNoAddress, card_read, name_read, number_read}
+use Rattle.upd_words.specs.declared.app.CommandRow.{CommandRow}
 use Rattle.upd_words.specs.declared.words.Request.{Request}
 use Rattle.upd_words.specs.declared.words.Request.TheVariants.{Trial, Init, Library, Backup, Compact, Examine, Replay, Migrate, Explain, Shown, Unread}
 use Rattle.upd_words.specs.declared.words.Request.TheVariants.{NoAddress}
@@ -39,6 +40,14 @@ operand_rule (name, parser) = record (new_rule name) { action = Some Set; requir
 -- a command with its operands in order
 abbrev pub command_shape : Text → List Operand → Shape
 command_shape name operands = record (new_shape name) { rules = map operand_rule operands }
+
+-- the command of a row of the program's tables
+abbrev pub row_shape : CommandRow → Shape
+row_shape row = command_shape row.name.now (map (λ o. (o.0.now, o.2)) row.operands.now)
+
+-- a program with this command more
+abbrev pub with_row : App → CommandRow → App
+with_row app row = with_subcommand app (row_shape row)
 
 -- the commands in order, each with its operands
 abbrev pub upd_commands : List (Text × List Operand)

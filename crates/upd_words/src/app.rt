@@ -1,12 +1,13 @@
-//! The program as clap knows it, and what `--help` says of it. What it says of a command stands beside the command: what it
-//! does, and below its words what it reads and writes, its exit statuses, and an example.
-ghost use Rattle.std.specs.Prelude.{[], ◌≡◌, IfOk, false, map, take};
-ghost use Rattle.clap.specs.Words.{app_of, rule_of, with_subcommand};
+//! The program as clap knows it, made of the tables of its commands, and what `--help` says of it.
+ghost use Rattle.std.specs.Prelude.{[], ◌≡◌, IfOk, false, fold};
+ghost use Rattle.clap.specs.Words.{app_of, rule_of};
 ghost use Rattle.clap.specs.declared.builder.command.Command.TheViews.{out-Command as fields_of};
 ghost use Rattle.clap.specs.Simple.{new_app};
-ghost use Rattle.upd_words.specs.Words.{app_with, command_shape, operand_rule, upd_app, upd_commands, upd_top};
+ghost use Rattle.upd_words.specs.Words.{operand_rule, row_shape, upd_app, upd_top, with_row};
 
-use crate::keeping::{EXAMINE, EXPLAIN, MIGRATE, REPLAY, seventh_commands};
+use crate::changing::changing_commands;
+use crate::keeping::{correcting_commands, keeping_commands};
+use crate::querying::querying_commands;
 use clap::builder::ValueParser;
 use clap::{Arg, ArgAction, Command};
 use std::alloc::{AllocError, Global};
@@ -26,13 +27,14 @@ pub(crate) const SINCE: Operand = ("SINCE", "the ident that was youngest", Value
 
 pub(crate) const DECK: Operand = ("DECK", "the name of a deck", ValueParser::String);
 
-/// The help of a command.
-#[derive(Clone, Copy, Debug)]
-pub(crate) struct Text {
+/// A row of the tables of commands.
+pub(crate) struct CommandRow {
+    pub name: &'static str,
     /// What the command does, in a line.
     pub about: &'static str,
     /// What it reads and writes, its exit statuses, and an example.
     pub more: &'static str,
+    pub operands: &'static [Operand],
 }
 
 /// What the program is, what its words mean, and where to read on: the head of `upd --help`.
@@ -53,20 +55,14 @@ there, upd-edit opens decks in an editor.";
 pub(crate) fn program<'a>(alloc: Global) -> Result<Command<'a>, AllocError>
     ensures { IfOk result (λ c. app_of c ≡ upd_app) }
 {
-    const FAULT: Operand = (
-        "FAULT",
-        "the name or the number of a fault",
-        ValueParser::String,
-    );
-    let app = seventh_commands(alloc)?;
-    let app = with_command(app, alloc, "examine", EXAMINE, &[FILE])?;
-    let app = with_command(app, alloc, "replay", REPLAY, &[FILE])?;
-    let app = with_command(app, alloc, "migrate", MIGRATE, &[FILE])?;
-    with_command(app, alloc, "explain", EXPLAIN, &[FAULT])
+    let app = with_commands(bare_program(alloc), alloc, changing_commands())?;
+    let app = with_commands(app, alloc, querying_commands())?;
+    let app = with_commands(app, alloc, correcting_commands())?;
+    with_commands(app, alloc, keeping_commands())
 }
 
 /// The program before its first command, and with clap's own command `help`.
-pub(crate) fn bare_program<'a>(alloc: Global) -> Command<'a>
+fn bare_program<'a>(alloc: Global) -> Command<'a>
     ensures { app_of result ≡ upd_top }
 {
     Command::new(alloc, "upd")
@@ -75,35 +71,31 @@ pub(crate) fn bare_program<'a>(alloc: Global) -> Command<'a>
         .subcommand_required(true)
 }
 
-/// A program with one command more.
-pub(crate) fn with_command<'a>(
+/// A program with the commands of a table more.
+fn with_commands<'a>(
     app: Command<'a>,
     alloc: Global,
-    name: &'a str,
-    help: Text,
-    operands: &[Operand],
+    commands: &[CommandRow],
 ) -> Result<Command<'a>, AllocError>
-    ensures { IfOk result (λ c. app_of c
-        ≡ with_subcommand (app_of app.entry) (command_shape name.entry.now (map (λ o. (o.0.now, o.2)) operands.now))) }
+    ensures { IfOk result (λ c. app_of c ≡ fold with_row (app_of app.entry) commands.now) }
 {
-    app.subcommand(command(alloc, name, help, operands)?)
+    let mut app = app;
+    for row in commands {
+        app = app.subcommand(command(alloc, row)?)?;
+    }
+    Ok(app)
 }
 
 /// A command with its help and its operands in order.
-fn command<'a>(
-    alloc: Global,
-    name: &'a str,
-    help: Text,
-    operands: &[Operand],
-) -> Result<Command<'a>, AllocError>
-    ensures app { IfOk result (λ c. app_of c ≡ record (new_app []) { top = command_shape name.entry.now (map (λ o. (o.0.now, o.2)) operands.now) }) }
+fn command<'a>(alloc: Global, row: &CommandRow) -> Result<Command<'a>, AllocError>
+    ensures app { IfOk result (λ c. app_of c ≡ record (new_app []) { top = row_shape row.now }) }
     ensures local { IfOk result (λ c. (fields_of c).has_globals ≡ false) }
 {
-    let mut command = Command::new(alloc, name)
-        .about(help.about)
-        .after_help(help.more);
-    for (operand_name, text, parser) in operands {
-        command = command.arg(operand(alloc, operand_name, text, *parser))?;
+    let mut command = Command::new(alloc, row.name)
+        .about(row.about)
+        .after_help(row.more);
+    for (name, help, parser) in row.operands {
+        command = command.arg(operand(alloc, name, help, *parser))?;
     }
     Ok(command)
 }

@@ -1,15 +1,13 @@
 //! Commands that ask a library: what they ask, and their help.
-ghost use Rattle.std.specs.Prelude.{◌≡◌, IfOk, take};
-ghost use Rattle.clap.specs.Words.{app_of, found_of, rows_of};
+ghost use Rattle.std.specs.Prelude.{◌≡◌, fold, take};
+ghost use Rattle.clap.specs.Words.{found_of, rows_of};
 ghost use Rattle.upd_words.specs.Words.{HasQueried, IsOneOf, IsOther, IsRead, app_with, desk_commands, file_commands};
-ghost use Rattle.upd_words.specs.Words.{query_name, upd_commands};
+ghost use Rattle.upd_words.specs.Words.{query_name, upd_commands, with_row};
 
-use crate::app::{DECK, FILE, Operand, SINCE, Text, with_command};
-use crate::changing::second_commands;
+use crate::app::{CommandRow, DECK, FILE, SINCE};
 use crate::operands::{card, name};
+use clap::ArgMatches;
 use clap::builder::ValueParser;
-use clap::{ArgMatches, Command};
-use std::alloc::{AllocError, Global};
 use upd_text::{CardRef, Fault, Name};
 
 /// What a command asks of a library, for a text that is made of it.
@@ -72,51 +70,18 @@ pub(crate) fn read_query(command: &str, operands: &ArgMatches<'_>) -> Result<Que
     }
 }
 
-/// The program with its first seventeen commands.
-pub(crate) fn fifth_commands<'a>(alloc: Global) -> Result<Command<'a>, AllocError>
-    ensures { IfOk result (λ c. app_of c ≡ app_with (take 17 upd_commands)) }
+/// Commands that ask a library, which come next.
+pub(crate) fn querying_commands() -> &'static [CommandRow]
+    ensures { fold with_row (app_with (take 7 upd_commands)) result.now ≡ app_with (take 17 upd_commands) }
 {
-    let app = fourth_commands(alloc)?;
-    let app = with_command(app, alloc, "yanks", YANKS, &[FILE])?;
-    let app = with_command(app, alloc, "page", PAGE, &[FILE])?;
-    let app = with_command(app, alloc, "text", TEXT, &[FILE, DECK])?;
-    with_command(app, alloc, "text-at", TEXT_AT, &[FILE, DECK, SINCE])
+    QUERYING
 }
 
-/// The program with its first thirteen commands.
-fn fourth_commands<'a>(alloc: Global) -> Result<Command<'a>, AllocError>
-    ensures { IfOk result (λ c. app_of c ≡ app_with (take 13 upd_commands)) }
-{
-    const IDENT: Operand = (
-        "IDENT",
-        "the name of a deck or a correction set",
-        ValueParser::String,
-    );
-    let app = third_commands(alloc)?;
-    let app = with_command(app, alloc, "blame", BLAME, &[FILE, DECK])?;
-    let app = with_command(app, alloc, "show", SHOW, &[FILE, IDENT])?;
-    with_command(app, alloc, "idents", IDENTS, &[FILE])
-}
-
-/// The program with its first ten commands.
-fn third_commands<'a>(alloc: Global) -> Result<Command<'a>, AllocError>
-    ensures { IfOk result (λ c. app_of c ≡ app_with (take 10 upd_commands)) }
-{
-    const CARD: Operand = ("CARD", "a card, as A.2", ValueParser::String);
-    const ANY_DECK: Operand = (
-        "DECK",
-        "the name of a deck, or YANK$$$",
-        ValueParser::String,
-    );
-    let app = second_commands(alloc)?;
-    let app = with_command(app, alloc, "compile", COMPILE, &[FILE])?;
-    let app = with_command(app, alloc, "list", LIST, &[FILE, ANY_DECK])?;
-    with_command(app, alloc, "history", HISTORY, &[FILE, CARD])
-}
-
-const COMPILE: Text = Text {
-    about: "Writes the compile file of all decks that aren't common",
-    more: "\
+const QUERYING: &[CommandRow] = &[
+    CommandRow {
+        name: "compile",
+        about: "Writes the compile file of all decks that aren't common",
+        more: "\
 Reads nothing, and writes lines of 97 bytes. Changes nothing.
 
 Exit status: 0 done; 1 a call can't be followed, or the file would be too long; 2 the command line
@@ -125,11 +90,12 @@ error.
 
 Example, after `upd init library.db`:
   upd compile library.db",
-};
-
-const LIST: Text = Text {
-    about: "Lists the cards of a deck, active or inactive",
-    more: "\
+        operands: &[FILE],
+    },
+    CommandRow {
+        name: "list",
+        about: "Lists the cards of a deck, active or inactive",
+        more: "\
 Reads nothing, and writes a line for the deck and a line for each card. Changes nothing.
 
 Exit status: 0 done; 1 DECK is not a name, or there is no such deck; 2 the command line can't be
@@ -138,11 +104,19 @@ read; 3 out of memory, or the library or a write failed. The fault is one line o
 Example, after `upd init library.db`:
   printf '*DECK A\\nONE\\n' | upd run library.db LYON 1 full
   upd list library.db A",
-};
-
-const HISTORY: Text = Text {
-    about: "Lists what is known of a card: its deck, its text, its status and its history",
-    more: "\
+        operands: &[
+            FILE,
+            (
+                "DECK",
+                "the name of a deck, or YANK$$$",
+                ValueParser::String,
+            ),
+        ],
+    },
+    CommandRow {
+        name: "history",
+        about: "Lists what is known of a card: its deck, its text, its status and its history",
+        more: "\
 Reads nothing, and writes a line for each. Changes nothing.
 
 Exit status: 0 done; 1 CARD is not a card's name, or there is no such card; 2 the command line can't
@@ -151,11 +125,12 @@ be read; 3 out of memory, or the library or a write failed. The fault is one lin
 Example, after `upd init library.db`:
   printf '*DECK A\\nONE\\n' | upd run library.db LYON 1 full
   upd history library.db A.2",
-};
-
-const BLAME: Text = Text {
-    about: "Lists the cards of a deck with who switched each of them last",
-    more: "\
+        operands: &[FILE, ("CARD", "a card, as A.2", ValueParser::String)],
+    },
+    CommandRow {
+        name: "blame",
+        about: "Lists the cards of a deck with who switched each of them last",
+        more: "\
 Reads nothing, and writes a line for each card: A (active) or I (inactive), the card, the set that
 switched it last and isn't yanked, and the text. Changes nothing.
 
@@ -165,11 +140,12 @@ read; 3 out of memory, or the library or a write failed. The fault is one line o
 Example, after `upd init library.db`:
   printf '*DECK A\\nONE\\n' | upd run library.db LYON 1 full
   upd blame library.db A",
-};
-
-const SHOW: Text = Text {
-    about: "Shows what a deck or a correction set did: its cards, what it switched, what it yanks",
-    more: "\
+        operands: &[FILE, DECK],
+    },
+    CommandRow {
+        name: "show",
+        about: "Shows what a deck or a correction set did: its cards, what it switched, what it yanks",
+        more: "\
 Reads nothing, and writes a line for each card that IDENT added, switched off or on, or yanks with,
 and for each live card that yanks it. The last line is the run that added IDENT with its message, as
 long as that run is stored and has one. Changes nothing.
@@ -180,11 +156,19 @@ be read; 3 out of memory, or the library or a write failed. The fault is one lin
 Example, after `upd init library.db`:
   printf '*DECK A\\nONE\\n' | upd run library.db LYON 1 full
   upd show library.db A",
-};
-
-const IDENTS: Text = Text {
-    about: "Lists all decks and correction sets, the oldest first, purged ones included",
-    more: "\
+        operands: &[
+            FILE,
+            (
+                "IDENT",
+                "the name of a deck or a correction set",
+                ValueParser::String,
+            ),
+        ],
+    },
+    CommandRow {
+        name: "idents",
+        about: "Lists all decks and correction sets, the oldest first, purged ones included",
+        more: "\
 Reads nothing, and writes a line for each. Changes nothing.
 
 Exit status: 0 done; 2 the command line can't be read; 3 out of memory, or the library or a write
@@ -192,11 +176,12 @@ failed. The fault is one line on standard error.
 
 Example, after `upd init library.db`:
   upd idents library.db",
-};
-
-const YANKS: Text = Text {
-    about: "Lists the yank cards, live or dead, with what each of them yanks",
-    more: "\
+        operands: &[FILE],
+    },
+    CommandRow {
+        name: "yanks",
+        about: "Lists the yank cards, live or dead, with what each of them yanks",
+        more: "\
 Reads nothing, and writes a line for each card and for each of its targets. Changes nothing.
 
 Exit status: 0 done; 2 the command line can't be read; 3 out of memory, or the library or a write
@@ -204,11 +189,12 @@ failed. The fault is one line on standard error.
 
 Example, after `upd init library.db`:
   upd yanks library.db",
-};
-
-const PAGE: Text = Text {
-    about: "Writes the library as one page for a browser",
-    more: "\
+        operands: &[FILE],
+    },
+    CommandRow {
+        name: "page",
+        about: "Writes the library as one page for a browser",
+        more: "\
 Reads nothing, and writes HTML that stands alone: the directory, the decks with their cards, each
 card's history at a click, and the yanks. There is no script in it. Changes nothing.
 
@@ -217,11 +203,12 @@ failed. The fault is one line on standard error.
 
 Example, after `upd init library.db`:
   upd page library.db > library.html",
-};
-
-const TEXT: Text = Text {
-    about: "Writes the active cards of a deck as plain text, to be edited",
-    more: "\
+        operands: &[FILE],
+    },
+    CommandRow {
+        name: "text",
+        about: "Writes the active cards of a deck as plain text, to be edited",
+        more: "\
 Reads nothing, and writes a line for each active card, the deck's first line included; calls stay
 calls. Changes nothing. What it writes is what `upd correct` takes once it is edited, and, without
 calls and in at most 2,000 lines, a run that adds the deck to an empty library.
@@ -232,11 +219,12 @@ read; 3 out of memory, or the library or a write failed. The fault is one line o
 Example, after `upd init library.db`:
   printf '*DECK A\\nONE\\n' | upd run library.db LYON 1 full
   upd text library.db A",
-};
-
-const TEXT_AT: Text = Text {
-    about: "Writes the text of a deck as it was when the ident SINCE was the youngest",
-    more: "\
+        operands: &[FILE, DECK],
+    },
+    CommandRow {
+        name: "text-at",
+        about: "Writes the text of a deck as it was when the ident SINCE was the youngest",
+        more: "\
 Reads nothing, and writes what `upd text` writes, as if all younger idents were yanked. What was
 purged since is missing. Changes nothing. The last held ident of `upd idents` is the youngest.
 
@@ -246,4 +234,6 @@ line can't be read; 3 out of memory, or the library or a write failed.
 Example, after `upd init library.db`:
   printf '*DECK A\\nONE\\n' | upd run library.db LYON 1 full
   upd text-at library.db A A",
-};
+        operands: &[FILE, DECK, SINCE],
+    },
+];

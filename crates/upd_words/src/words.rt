@@ -186,54 +186,39 @@ fn read_desk_command<'a>(name: &str, operands: &ArgMatches<'a>) -> Result<Comman
         (name.now, rows_of (found_of operands.now)) result }
 {
     match name {
-        "run" => match number(operands) {
-            Ok(number) => Ok(Command::Run {
-                site: word(operands, "SITE"),
-                number,
-                mode: word(operands, "MODE"),
-                since: None,
-            }),
-            Err(fault) => Err(fault),
-        },
+        "run" => Ok(Command::Run {
+            site: word(operands, "SITE"),
+            number: number(operands)?,
+            mode: word(operands, "MODE"),
+            since: None,
+        }),
         "run-at" => read_run_at(operands),
-        "settle" => match number(operands) {
-            Ok(number) => Ok(Command::Settle {
-                site: word(operands, "SITE"),
-                number,
-            }),
-            Err(fault) => Err(fault),
-        },
+        "settle" => Ok(Command::Settle {
+            site: word(operands, "SITE"),
+            number: number(operands)?,
+        }),
         "spool" => Ok(Command::Spool),
         "correct" => Ok(Command::Correct {
             set: word(operands, "SET"),
         }),
-        "correct-at" => match crate::operands::name(operands, "SINCE") {
-            Ok(since) => Ok(Command::CorrectAt {
-                set: word(operands, "SET"),
-                since,
-            }),
-            Err(fault) => Err(fault),
-        },
-        "correct-parts" => match number(operands) {
-            Ok(number) => Ok(Command::CorrectParts {
-                set: word(operands, "SET"),
-                site: word(operands, "SITE"),
-                number,
-                mode: word(operands, "MODE"),
-            }),
-            Err(fault) => Err(fault),
-        },
+        "correct-at" => Ok(Command::CorrectAt {
+            set: word(operands, "SET"),
+            since: crate::operands::name(operands, "SINCE")?,
+        }),
+        "correct-parts" => Ok(Command::CorrectParts {
+            set: word(operands, "SET"),
+            site: word(operands, "SITE"),
+            number: number(operands)?,
+            mode: word(operands, "MODE"),
+        }),
         "try" => Ok(Command::Try {
             mode: word(operands, "MODE"),
             since: None,
         }),
-        "try-at" => match crate::operands::name(operands, "SINCE") {
-            Ok(since) => Ok(Command::Try {
-                mode: word(operands, "MODE"),
-                since: Some(since),
-            }),
-            Err(fault) => Err(fault),
-        },
+        "try-at" => Ok(Command::Try {
+            mode: word(operands, "MODE"),
+            since: Some(crate::operands::name(operands, "SINCE")?),
+        }),
         _ => match read_query(name, operands) {
             Ok(query) => Ok(Command::Ask(query)),
             Err(fault) => Err(fault),
@@ -246,19 +231,12 @@ fn read_run_at<'a>(operands: &ArgMatches<'a>) -> Result<Command<'a>, Fault>
     ensures { IsRead (λ command. (codes "run-at" ≡ command_name command) × HasOperands (rows_of (found_of operands.now)) command)
         (codes "run-at", rows_of (found_of operands.now)) result }
 {
-    let number = match number(operands) {
-        Ok(number) => number,
-        Err(fault) => return Err(fault),
-    };
-    match crate::operands::name(operands, "SINCE") {
-        Ok(since) => Ok(Command::Run {
-            site: word(operands, "SITE"),
-            number,
-            mode: word(operands, "MODE"),
-            since: Some(since),
-        }),
-        Err(fault) => Err(fault),
-    }
+    Ok(Command::Run {
+        site: word(operands, "SITE"),
+        number: number(operands)?,
+        mode: word(operands, "MODE"),
+        since: Some(crate::operands::name(operands, "SINCE")?),
+    })
 }
 
 /// What clap says where the words are not read or ask for a text; a word of git has a hint behind it.

@@ -20,10 +20,10 @@ rules_more operands i d h =
     ∙ ap (map operand_rule) (map-append operand_of (take i operands) (get_or operands i d ∷ []))
     ∙ map-append operand_rule (map operand_of (take i operands)) (operand_of (get_or operands i d) ∷ []))
 
-pub loop-operand_name-preserved : goal.loop-operand_name-preserved
-loop-operand_name-preserved c = record {
-  app = c.in_ok-command.ensures.shape c.operand.ensures.local ∙ ap₂ with_rule c.loop-operand_name.invariant.app c.operand.ensures.rule
-      ∙ ap (λ (rules : List Rule). record (new_app []) { top = record (command_shape c.args.name.now []) { rules = rules } })
-      (rules_more c.args.operands.now c.loop-operand_name.operand_name-index _ c.loop-operand_name-test.true);
-  local = c.in_ok-command.ensures.globals ∙ ap₂ (λ a b. a || b) c.loop-operand_name.invariant.local c.operand.ensures.local;
+pub loop-name-preserved : goal.loop-name-preserved
+loop-name-preserved c = record {
+  app = c.in_ok-command.ensures.shape c.operand.ensures.local ∙ ap₂ with_rule c.loop-name.invariant.app c.operand.ensures.rule
+      ∙ ap (λ (rules : List Rule). record (new_app []) { top = record (command_shape c.args.row.now.name.now []) { rules = rules } })
+      (rules_more c.args.row.now.operands.now c.loop-name.name-index _ c.loop-name-test.true);
+  local = c.in_ok-command.ensures.globals ∙ ap₂ (λ a b. a || b) c.loop-name.invariant.local c.operand.ensures.local;
 }
