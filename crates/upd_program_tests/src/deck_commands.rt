@@ -113,6 +113,41 @@ FirstCard 6:1 the first card of a deck can't be changed\n";
     session_without_file(&rt, "edited", EDITS)
 }
 
+/// A deck that came with a set stays where the set goes.
+#[test]
+fn a_deck_that_stays_is_reported(rt: HostRuntime) -> Result<(), Fail> {
+    const TRIED: &str =
+        "{\"compile\":\"\",\"idents\":[\"Z\"],\"lines\":0,\"mode\":\"quick\",\"run\":1,\"site\":\"TRY\",\
+\"state\":\"accepted\"}\n";
+    const PURGED: &str =
+        "{\"compile\":\"\",\"idents\":[],\"lines\":0,\"mode\":\"quick\",\"run\":1,\"site\":\"TRY\",\
+\"state\":\"accepted\"}\n";
+    const STAYS: &str = "upd: 2: NEWD came with S and stays: yank S,NEWD\n";
+    const STAYS_OF_PURGE: &str = "upd: 1: NEWD came with S and stays: purge S,NEWD\n";
+    const MAY_STAY: &str = "upd: 2: if NEWD came with S, it stays: yank S,NEWD\n";
+    const BOTH: &str = "*IDENT S\n*INSERT A.2\nTWO\n*DECK NEWD\nLINE\n";
+    const YANK: &str = "*IDENT Z\n*YANK S\n";
+    const YANK_BOTH: &str = "*IDENT Z\n*YANK S,NEWD\n";
+    const STEPS: &[Step<'_>] = &[
+        Step::New("the stored run introduced both (rule 10.68.4)"),
+        Step::Accepts("1", "quick", "*DECK A\nONE\n"),
+        Step::Accepts("2", "quick", BOTH),
+        Step::Answers("try", &["quick"], YANK, (0, TRIED, STAYS)),
+        Step::Answers("try", &["quick"], "*PURGE S\n", (0, PURGED, STAYS_OF_PURGE)),
+        Step::Answers("try", &["quick"], YANK_BOTH, (0, TRIED, "")),
+        Step::Shows("the run is settled, so that it is not known (rule 10.68.4)"),
+        Step::Settles("LYON", "2", "2"),
+        Step::Answers("try", &["quick"], YANK, (0, TRIED, MAY_STAY)),
+        Step::Answers("try", &["quick"], YANK_BOTH, (0, TRIED, "")),
+        Step::New("the stored run introduced only the set (rule 10.68.4)"),
+        Step::Accepts("1", "quick", "*DECK A\nONE\n"),
+        Step::Accepts("2", "quick", "*IDENT S\n*INSERT A.2\nTWO\n"),
+        Step::Accepts("3", "quick", "*DECK NEWD\nLINE\n"),
+        Step::Answers("try", &["quick"], YANK, (0, TRIED, "")),
+    ];
+    session_without_file(&rt, "staying", STEPS)
+}
+
 const PARTS: &str = "correct-parts";
 
 const LAST: &[&str] = &["T", "LYON", "999999999", "quick"];

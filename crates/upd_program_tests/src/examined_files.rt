@@ -16,11 +16,12 @@ const LOGGED: Step<'static> = Step::Logs("INSERT INTO settled (site, mark) VALUE
 
 const ONE_CARD: Step<'static> = Step::Accepts("1", "full", "*DECK A\nONE\n");
 
-#[test]
-fn libraries_are_examined(rt: HostRuntime) -> Result<(), Fail> {
-    const LOG_LINES: &str = "\
+const LOG_LINES: &str = "\
 log: keep FILE-wal with the file, it may have commits that the file lacks
 sound: decks 0, cards 0, runs 0, replies 0";
+
+#[test]
+fn libraries_are_examined(rt: HostRuntime) -> Result<(), Fail> {
     const STATUS_LINES: &str = "\
 states A.2 (active) is not stored, and the library has it
 states A.2 (not active) is stored, and the library does not have it
@@ -130,9 +131,8 @@ fn an_examination_changes_no_byte(rt: HostRuntime) -> Result<(), Fail> {
 #[test]
 fn a_file_is_examined_by_a_link(rt: HostRuntime) -> Result<(), Fail> {
     const STEPS: &[Step<'_>] = &[
-        IS_EMPTY,
-        LOGGED,
         Step::IsSound(EMPTY_LINE, true),
+        Step::Examines(LOG_LINES),
         Step::File("a text beside a log with commits", b"*DECK A\n"),
         Step::Is(Situation::NotSqlite),
         Step::File("an empty file beside a log with commits", b""),
@@ -140,8 +140,12 @@ fn a_file_is_examined_by_a_link(rt: HostRuntime) -> Result<(), Fail> {
     ];
     let (file, link) = (library(&rt, "pointed-at")?, fresh(&rt, "pointer")?);
     symlink(&rt, file.as_str(), link.as_str())?;
+    let beside_link = format!(in rt.alloc(); "{link}-wal")?;
+    fs::write(&rt, beside_link.as_str(), &vec![in rt.alloc(); 1u8; 600]?)?;
+    take_all(&rt, &link, &[IS_EMPTY])?;
+    take_all(&rt, &file, &[LOGGED])?;
     take_all(&rt, &link, STEPS)?;
-    fs::remove_file(&rt, link.as_str())?;
+    remove(&rt, &link)?;
     remove(&rt, &file)
 }
 

@@ -1,13 +1,13 @@
 //! A library into which others could put commits, by its folder or by the log beside its file: no command opens it.
 //! Rule 10.48.3.
-use crate::console::{answers, fresh, is_gone, library, remove, without_log};
-use crate::file_sessions::{NO_LIBRARY, SILENT, Step, take_all};
+use crate::console::{fresh, is_gone, library, remove, without_log};
+use crate::file_sessions::{NO_LIBRARY, SILENT, Step, stays, take_all};
 use crate::lone_logs::logged;
 use std::fs;
 use std::os::unix::fs::{PermissionsExt, chown, symlink};
+use std::os::unix::net::UnixListener;
 use std::test::Fail;
 use upd_keep::Situation;
-use upd_testkit::check::same;
 
 const INIT_FAILS: Step<'static> = Step::Answers("init", &[], "", NO_LIBRARY);
 
@@ -80,6 +80,15 @@ once that user has run `upd spool FILE </dev/null`, remove it\n";
 #[test]
 fn an_empty_log_or_file_of_another_user_is_refused(rt: HostRuntime) -> Result<(), Fail> {
     const FOREIGN_LOG: &[Step<'_>] = &[INIT_FAILS, Step::Is(Situation::ForeignLog)];
+    const FOREIGN: &str =
+        "upd: the file is empty, and another user's: remove it, and `upd init` makes a library\n";
+    const FOREIGN_FILE: &[Step<'_>] = &[
+        INIT_FAILS,
+        Step::AllAnswer(NO_LIBRARY),
+        Step::Is(Situation::ForeignEmpty),
+        Step::Answers("examine", &[], "", (3, "", FOREIGN)),
+        Step::Has(b""),
+    ];
     let file = fresh(&rt, "foreign")?;
     let log = format!(in rt.alloc(); "{}-wal", file.as_str())?;
     fs::write(&rt, log.as_str(), b"")?;
@@ -91,8 +100,7 @@ fn an_empty_log_or_file_of_another_user_is_refused(rt: HostRuntime) -> Result<()
         fs::remove_file(&rt, log.as_str())?;
         fs::write(&rt, file.as_str(), b"")?;
         chown(&rt, file.as_str(), Some(OTHER), None)?;
-        take_all(&rt, &file, &[INIT_FAILS])?;
-        same("the bytes", fs::metadata(&rt, file.as_str())?.len(), 0)?;
+        take_all(&rt, &file, FOREIGN_FILE)?;
     }
     remove(&rt, &file)
 }
@@ -138,27 +146,61 @@ fn an_open_folder_is_named_before_a_log(rt: HostRuntime) -> Result<(), Fail> {
     Ok(fs::remove_dir(&rt, folder.as_str())?)
 }
 
+/// What is tried on whatever is beside a log that can't be opened.
+const BESIDE_CLOSED_LOG: &[Step<'_>] = &[
+    INIT_FAILS,
+    Step::AllAnswer(NO_LIBRARY),
+    Step::Is(Situation::ClosedLog),
+    Step::Answers("examine", &[], "", (3, "", CLOSED)),
+];
+
+const CLOSED: &str =
+    "upd: the log beside it, FILE-wal, can't be opened: let the user read and write it; \
+a folder or a link there must go\n";
+
 /// A log that can't be opened is named, and no library is made beside it.
 #[test]
 fn a_folder_in_place_of_the_log_is_named(rt: HostRuntime) -> Result<(), Fail> {
-    const REFUSED: &[Step<'_>] = &[Step::AllAnswer(NO_LIBRARY), Step::Is(Situation::ClosedLog)];
     let file = library(&rt, "closed")?;
     let log = format!(in rt.alloc(); "{}-wal", file.as_str())?;
     without_log(&rt, &file)?;
     fs::create_dir(&rt, log.as_str())?;
-    take_all(&rt, &file, REFUSED)?;
+    stays(&rt, &file, BESIDE_CLOSED_LOG)?;
     fs::write(&rt, file.as_str(), b"")?;
-    take_all(&rt, &file, &[INIT_FAILS, Step::Has(b"")])?;
+    stays(&rt, &file, BESIDE_CLOSED_LOG)?;
+    fs::remove_file(&rt, file.as_str())?;
+    take_all(&rt, &file, BESIDE_CLOSED_LOG)?;
+    is_gone(&rt, &file)?;
     fs::remove_dir(&rt, log.as_str())?;
     remove(&rt, &file)
 }
 
-/// No file is made under a name that SQLite reads as something else.
+/// A socket is no regular file, as a named pipe is none.
+#[test]
+fn a_socket_in_place_of_the_log_is_named(rt: HostRuntime) -> Result<(), Fail> {
+    let file = fresh(&rt, "socket")?;
+    let log = format!(in rt.alloc(); "{}-wal", file.as_str())?;
+    let _listener = UnixListener::bind(&rt, log.as_str())?;
+    take_all(&rt, &file, BESIDE_CLOSED_LOG)?;
+    is_gone(&rt, &file)?;
+    remove(&rt, &file)
+}
+
+/// No command takes a name that SQLite reads as something else, not even that of a library, and no file is made under it.
+/// Rule 10.48.4.
 #[test]
 fn no_file_is_made_under_the_name_of_a_uri(rt: HostRuntime) -> Result<(), Fail> {
-    for name in [":memory:", "file:upd-uri.db"] {
-        answers(&rt, &["init", name], "", NO_LIBRARY)?;
+    const NAME: &str = "file:upd-uri.db";
+    const REFUSED: &[Step<'_>] = &[INIT_FAILS, Step::AllAnswer(NO_LIBRARY)];
+    let file = library(&rt, "named-so")?;
+    for name in [":memory:", NAME] {
+        take_all(&rt, name, REFUSED)?;
+        take_all(&rt, name, &[Step::Is(Situation::NoFile)])?;
         is_gone(&rt, name)?;
     }
-    Ok(())
+    fs::write(&rt, NAME, &fs::read(&rt, file.as_str())?)?;
+    stays(&rt, NAME, REFUSED)?;
+    stays(&rt, NAME, &[Step::Is(Situation::CannotOpen)])?;
+    remove(&rt, NAME)?;
+    remove(&rt, &file)
 }

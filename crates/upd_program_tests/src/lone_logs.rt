@@ -1,6 +1,8 @@
-//! A log whose file was moved away: no command writes over its commits. Rules 10.48.2 and 10.48.4.
+//! A log or a journal without its file: no command writes over what it has. Rules 10.48.2 to 10.48.4.
 use crate::console::{answers, fresh, is_gone, library, remove};
-use crate::file_sessions::{NO_LIBRARY, SILENT, Step, has_bytes, session_without_file, take_all};
+use crate::file_sessions::{
+    NO_LIBRARY, SILENT, Step, has_bytes, session_without_file, stays, take_all,
+};
 use std::fs;
 use std::fs::Permissions;
 use std::os::unix::fs::PermissionsExt;
@@ -98,6 +100,50 @@ fn a_library_is_made_over_what_init_leaves(rt: HostRuntime) -> Result<(), Fail> 
         Step::Has(b"x"),
     ];
     session_without_file(&rt, "ended", BESIDE_ENDED_LOG)
+}
+
+/// A journal that SQLite left is kept for its database, and so is a folder with that name. Rule 10.48.3.
+#[test]
+fn no_library_is_made_beside_a_journal(rt: HostRuntime) -> Result<(), Fail> {
+    const REFUSED: &[Step<'_>] = &[
+        Step::Answers("init", &[], "", NO_LIBRARY),
+        Step::AllAnswer(NO_LIBRARY),
+    ];
+    let file = library(&rt, "journal")?;
+    let journal = format!(in rt.alloc(); "{file}-journal")?;
+    fs::write(&rt, journal.as_str(), JOURNAL)?;
+    stays(&rt, &file, REFUSED)?;
+    stays(&rt, &file, &[Step::Is(Situation::CannotOpen)])?;
+    fs::write(&rt, file.as_str(), b"")?;
+    stays(&rt, &file, REFUSED)?;
+    fs::remove_file(&rt, file.as_str())?;
+    take_all(&rt, &file, REFUSED)?;
+    is_gone(&rt, &file)?;
+    has_bytes(&rt, &journal, JOURNAL)?;
+    fs::remove_file(&rt, journal.as_str())?;
+    fs::create_dir(&rt, journal.as_str())?;
+    take_all(&rt, &file, REFUSED)?;
+    is_gone(&rt, &file)?;
+    fs::remove_dir(&rt, journal.as_str())?;
+    remove(&rt, &file)
+}
+
+/// How the journal of a transaction begins.
+const JOURNAL: &[u8] = b"\xd9\xd5\x05\xf9\x20\xa1\x63\xd7";
+
+/// A journal that is empty, or begins with a 0, holds nothing of a transaction.
+#[test]
+fn a_library_is_made_beside_an_ended_journal(rt: HostRuntime) -> Result<(), Fail> {
+    const LINE: &str = "sound: decks 0, cards 0, runs 0, replies 0";
+    let file = fresh(&rt, "played")?;
+    let journal = format!(in rt.alloc(); "{file}-journal")?;
+    for bytes in [b"".as_slice(), b"\0\xd5".as_slice()] {
+        remove(&rt, &file)?;
+        fs::write(&rt, journal.as_str(), bytes)?;
+        take_all(&rt, &file, &[MADE, Step::IsSound(LINE, false)])?;
+    }
+    fs::remove_file(&rt, journal.as_str())?;
+    remove(&rt, &file)
 }
 
 /// A log that was left beside a new file is nobody else's to read.

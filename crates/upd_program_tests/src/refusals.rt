@@ -33,9 +33,10 @@ fn operands_are_checked_before_the_file(rt: HostRuntime) -> Result<(), Fail> {
 
 const LYON: &[&str] = &["LYON", "1", "full"];
 
-/// The commands that need a library, with the words after their file.
+/// The commands that need a library, with the words after their file. A copy has no folder, so that none is made.
 pub const COMMANDS: &[(&str, &[&str])] = &[
     ("run", LYON),
+    ("run-at", &["LYON", "1", "full", "A"]),
     ("settle", &["LYON", "1"]),
     ("spool", &[]),
     ("serve", &["127.0.0.1:0", "1"]),
@@ -58,6 +59,8 @@ pub const COMMANDS: &[(&str, &[&str])] = &[
     ("try", &["full"]),
     ("try-at", &["full", "A"]),
     ("source", &["A"]),
+    ("backup", &["upd-no-folder/copy.db"]),
+    ("compact", &["upd-no-folder/copy.db"]),
     ("replay", &[]),
     ("migrate", &[]),
 ];
