@@ -44,11 +44,12 @@ class Paths:
         subprocess.run([self.upd, "run", file, "LYON", "1", "full"], input=b"*DECK A\nONE\n", stdout=subprocess.DEVNULL, check=True)
         return file
 
-    def is_said(self, file, words, plain=False):
-        """A path is in a situation, which these words name; and a file is left as it was."""
+    def is_said(self, file, words, plain=False, more=""):
+        """A path is in a situation, which these words name, before more lines; and a file is left as it was."""
         before = Path(file).read_bytes() if Path(file).is_file() else None
         status, output, faults = said(self.upd, file, plain)
-        right = status == 3 and output == "" and faults.startswith("upd: ") and words in faults and faults.count("\n") == 1
+        line, end, rest = faults.partition("\n")
+        right = status == 3 and output == "" and line.startswith("upd: ") and words in line and end == "\n" and rest == more
         after = Path(file).read_bytes() if Path(file).is_file() else None
         self.judge(right and before == after, words, (status, output, faults, before == after))
 
@@ -188,7 +189,7 @@ def try_damage(paths):
     file = paths.library("damaged.db")
     pages = file.read_bytes()
     file.write_bytes(pages[:4096] + b"\xff" * 512 + pages[4608:])
-    paths.is_said(file, "damaged")
+    paths.is_said(file, "damaged", more="upd: pages with a wrong sum: 2\n")
     file.write_bytes(pages[:-4096])
     paths.is_said(file, "damaged")
 
