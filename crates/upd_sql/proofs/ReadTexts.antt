@@ -3,6 +3,7 @@ use Rattle.upd_sql.proofs.Common.{◌≡◌, ℕ, false, List, [], ◌∷◌, re
 use Rattle.sqlite_tied.specs.Compute.{everything}
 use Rattle.sqlite.specs.Listing.{understood}
 use Rattle.upd_sql.proofs.Common.{plain_query, row_order, library_schema}
+use Rattle.sqlite_sql.specs.declared.ops.CompareOp.TheVariants.{Ge}
 use Rattle.sqlite_value.specs.Keys.{ascending}
 use Rattle.sqlite_schema.specs.declared.command.Command.TheVariants.{Select}
 use Rattle.sqlite.specs.Listing.{reads_listing}
@@ -42,9 +43,19 @@ pub all_cards : Reads sql.ALL_CARDS.now 4 [] five []
 unfolding understood everything
 all_cards = record { names = _; is = refl; plain = (refl, refl); unlisted = refl }
 
-pub all_entries : Reads sql.ALL_ENTRIES.now 6 [] five []
+abbrev pub entries_at_tests : List Term
+entries_at_tests = op2 (Compare Eq Binary) (col 1 3) (col 0 0) ∷ []
+
+pub entries_at : Reads sql.ENTRIES_AT.now 6 entries_at_tests five []
 unfolding understood everything
-all_entries = record { names = _; is = refl; plain = (refl, refl); unlisted = refl }
+entries_at = record { names = _; is = refl; plain = (refl, refl); unlisted = refl }
+
+abbrev pub entries_from_tests : List Term
+entries_from_tests = op2 (Compare Ge Binary) (col 1 3) (col 0 0) ∷ []
+
+pub entries_from : Reads sql.ENTRIES_FROM.now 6 entries_from_tests five []
+unfolding understood everything
+entries_from = record { names = _; is = refl; plain = (refl, refl); unlisted = refl }
 
 pub all_targets : Reads sql.ALL_TARGETS.now 8 [] six []
 unfolding understood everything

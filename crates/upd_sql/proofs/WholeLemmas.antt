@@ -1,22 +1,26 @@
 -- Reading whole tables: the rows of an answer are the table's, in any order, and each is read as the record that it stores.
 use Rattle.upd_sql.proofs.Common.{◌≡◌, ℕ, ◌+◌, ◌<◌, true, List, [], ◌∷◌, ◌++◌, map, filter, take, length, get_or, Result, Ok, Err, refl, sym, ap, ap₂, subst}
+use Rattle.upd_sql.proofs.Common.{◌==◌, ◌&&◌, nat_le, Bool, false, EntryRow, holds, filter_same}
 use Rattle.upd_sql.proofs.Common.{◌∙◌, arith, pos, IsErr, IfOk, list_all, nat_tests, take_more, get_or-map, length-map, Null, Row, Key, sort_cmp, Term}
 use Rattle.upd_sql.proofs.Common.{eval_all, Error, Database, State, Shown, map-map, Target, Set, SetIn, Deck, MarkRow, Rows, RunView, TargetRow}
 use Rattle.sqlite.specs.Listing.{understood}
 use Rattle.upd_sql.proofs.Common.{state_pair, count_pair, rows_at, is_lone, clean_before, steps_then, library_schema, AreInOrder, by_key, by_site}
 use Rattle.upd_sql.proofs.Common.{in_any_order, num, ident_row, card_row, entry_row, target_row, run_row, state_row, mark_row, stored, HoldsTables}
-use Rattle.std.proofs.Common.{int_cmp, nat_cmp, Ordering}
+use Rattle.std.proofs.Common.{◌||◌, cond, int_cmp, nat_cmp, nat_lt, Ordering}
 use Rattle.std.specs.Ordering.{ordering_then}
 use Rattle.std.proofs.lemmas.Int.{ints}
 use Rattle.sqlite_value.specs.Order.{value_cmp}
 use Rattle.sqlite_value.proofs.OrderLemmas.{then-Equal, value_cmp-Int, value_cmp-Text}
+use Rattle.std.specs.List.{count_by}
 use Rattle.sqlite.specs.Given.{IsPlain}
+use Rattle.upd_records.specs.Rows.{IsSame}
+use Rattle.upd_records.proofs.CountLemmas.{count_append, count_cons, count_filter, same_append, same_of, same_trans}
 use Rattle.upd_sql.specs.Commits.{IsAnswered, Looks}
 use Rattle.upd_sql.specs.Encoded.{kept_state, kept_count}
 use Rattle.upd_sql.proofs.Listed.{lists, ordered_as}
 use Rattle.upd_sql.proofs.Bare.{is_bare}
 use Rattle.upd_sql.proofs.ReadTexts.{Reads, two, three, four, five, six, runs_order, marks_order}
-use Rattle.upd_sql.proofs.ReadTexts.{all_idents, all_cards, all_entries, all_targets, all_states, all_counts, all_runs, all_marks, runs_in_turn, marks_in_turn}
+use Rattle.upd_sql.proofs.ReadTexts.{all_idents, all_cards, all_targets, all_states, all_counts, all_runs, all_marks, runs_in_turn, marks_in_turn}
 use Rattle.upd_sql.proofs.Typed.{reads_exactly}
 use Rattle.upd_sql.specs.declared.texts.TheConstants as sql
 
@@ -89,8 +93,12 @@ module _ (old new : State) (it : Rows) (h : HoldsTables it old.now) (rows : List
   pub cards_listed : Answers sql.ALL_CARDS.now card_row in_any_order it.cards
   cards_listed = whole 2 4 refl card_row it.cards refl _ five [] in_any_order all_cards refl refl (λ x. refl) (λ x y. refl)
 
-  pub entries_listed : Answers sql.ALL_ENTRIES.now entry_row in_any_order it.entries
-  entries_listed = whole 3 6 refl entry_row it.entries refl _ five [] in_any_order all_entries refl refl (λ x. refl) (λ x y. refl)
+  pub entries_listed : (ord : ℕ) (sql : List ℕ) (tests : List Term) (test : EntryRow → Bool) → Reads sql 6 tests five [] → list_all is_bare tests ≡ true
+      → ((e : EntryRow) → list_all (holds ((num ord ∷ []) ∷ (Null ∷ entry_row e) ∷ [])) tests ≡ test e) → Shown sql (num ord ∷ []) old new rows
+      → (us : List EntryRow) × (rows ≡ map entry_row us) × AreInOrder in_any_order (filter test it.entries) us
+  entries_listed ord sql tests test query bare means answer =
+      lists 3 6 refl entry_row entry_row (stored it) it.entries refl sql (num ord ∷ []) old new rows answer h tests five [] query bare refl refl test means
+      (λ e. refl)
 
   pub targets_listed : Answers sql.ALL_TARGETS.now target_row in_any_order it.targets
   targets_listed = whole 4 8 refl target_row it.targets refl _ six [] in_any_order all_targets refl refl target_whole (λ x y. refl)
@@ -173,3 +181,60 @@ looked F items sql params a b x (Err e) plain said means = record {
   same = λ clean. tt;
   found = λ clean. tt;
 }
+
+-- ---- the entries in parts
+
+-- what is read before the entries at a place
+abbrev pub is_before : ℕ → EntryRow → Bool
+is_before ord e = nat_le 3 e.ord || nat_lt e.ord ord
+
+module _ {X : Type 0} (p q r : X → Bool) (once : (x : X) → cond (r x) 1 0 ≡ cond (p x) 1 0 + cond (q x) 1 0) where
+  both_pass : (test : X → Bool) (x : X) → cond (r x && test x) 1 0 ≡ cond (p x && test x) 1 0 + cond (q x && test x) 1 0
+  both_pass test x = by (p x) (q x) (r x) (once x)
+    where
+      by : (a b c : Bool) → cond c 1 0 ≡ cond a 1 0 + cond b 1 0 → cond (c && test x) 1 0 ≡ cond (a && test x) 1 0 + cond (b && test x) 1 0
+      by true true true h = absurd (omega (arith, h))
+      by true true false h = absurd (omega (arith, h))
+      by true false true h = omega arith
+      by true false false h = absurd (omega (arith, h))
+      by false true true h = omega arith
+      by false true false h = absurd (omega (arith, h))
+      by false false true h = absurd (omega (arith, h))
+      by false false false h = omega arith
+
+  counted : (test : X → Bool) (xs : List X) → count_by (λ x. r x && test x) xs ≡ count_by (λ x. p x && test x) xs + count_by (λ x. q x && test x) xs
+  counted test [] = refl
+  counted test (x ∷ xs) =
+      omega (
+        arith,
+        counted test xs,
+        both_pass test x,
+        count_cons (λ y. r y && test y) x xs,
+        count_cons (λ y. p y && test y) x xs,
+        count_cons (λ y. q y && test y) x xs,
+      )
+
+  -- those that pass one test or another, and never both
+  pub parted : (xs : List X) → IsSame (filter p xs ++ filter q xs) (filter r xs)
+  parted xs = record {
+    passes = λ test. count_append test (filter p xs) (filter q xs) ∙ ap₂ ◌+◌ (count_filter test p xs) (count_filter test q xs) ∙ sym (counted test xs)
+        ∙ sym (count_filter test r xs);
+  }
+
+pub one_part_more : (ord : ℕ) (es found part next : List EntryRow) → ord < 3 → next ≡ found ++ part
+    → AreInOrder in_any_order (filter (is_before ord) es) found → AreInOrder in_any_order (filter (λ e. e.ord == ord) es) part
+    → AreInOrder in_any_order (filter (is_before (ord + 1)) es) next
+one_part_more ord es found part next few grown p q = record {
+  same = same_trans (same_of next (found ++ part) grown)
+      (same_trans (same_append p.same q.same) (parted (is_before ord) (λ e. e.ord == ord) (is_before (ord + 1)) (λ e. once e.ord) es));
+  sorted = λ k d low high. refl;
+}
+  where
+    once : (n : ℕ) → cond (nat_le 3 n || nat_lt n (ord + 1)) 1 0 ≡ cond (nat_le 3 n || nat_lt n ord) 1 0 + cond (n == ord) 1 0
+    once n = grind (arith, nat_tests, few)
+
+pub all_parts : (es : List EntryRow) → filter (is_before 3) es ≡ es
+all_parts es = filter_same _ _ (λ e. any e.ord) es ∙ all_pass es
+  where
+    any : (n : ℕ) → (nat_le 3 n || nat_lt n 3) ≡ true
+    any n = grind (arith, nat_tests)

@@ -100,7 +100,11 @@ pub(crate) const ALL_IDENTS: &str = "SELECT age, name, kind, noprop, held FROM i
 
 pub(crate) const ALL_CARDS: &str = "SELECT ident, num, deck, pos, body FROM cards";
 
-pub(crate) const ALL_ENTRIES: &str = "SELECT ident, num, ord, who, active FROM entries";
+pub(crate) const ENTRIES_AT: &str =
+    "SELECT ident, num, ord, who, active FROM entries WHERE ord = ?1";
+
+pub(crate) const ENTRIES_FROM: &str =
+    "SELECT ident, num, ord, who, active FROM entries WHERE ord >= ?1";
 
 pub(crate) const ALL_TARGETS: &str = "SELECT ident, num, ord, kind, target, deck FROM targets";
 

@@ -1,5 +1,5 @@
 //! Whole tables, each read by one query.
-ghost use Rattle.std.specs.Prelude.{◌≡◌, List, [], map};
+ghost use Rattle.std.specs.Prelude.{◌≡◌, ◌==◌, List, [], filter, map, nat_le};
 ghost use Rattle.sqlite_value.specs.Order.{Row as SqlRow};
 ghost use Rattle.sqlite.specs.Given.{IsPlain};
 ghost use Rattle.sqlite.specs.Held.{state};
@@ -17,7 +17,7 @@ ghost use Rattle.upd_sql.specs.Part.{AreActiveRows};
 ghost use Rattle.upd_sql.specs.Schema.{library_schema};
 
 use crate::record::{Record, each};
-use crate::texts;
+use crate::{texts, values};
 use sqlite::types::ValueRef;
 use sqlite::{Alter, Error, Row, Transaction};
 use std::alloc::Global;
@@ -50,39 +50,71 @@ fn all_of<S: Alter, T: Record + Drop>(
     tx: &mut Transaction<'_, S>,
     alloc: Global,
     sql: &str,
+    params: &[ValueRef<'_>],
 ) -> Result<Vec<T>, Error>
     ensures { (listed : Rows → List T) (cmp : T → T → Ordering) → IsPlain (understood library_schema sql.now)
         → ((it : Rows) → HoldsTables it (state S.Store tx.old.conn.now).now → (rows : List SqlRow)
-        → Shown sql.now [] (state S.Store tx.old.conn.now) (state S.Store tx.new.conn.now) rows
+        → Shown sql.now (bound params.now) (state S.Store tx.old.conn.now) (state S.Store tx.new.conn.now) rows
         → (kept : List T) × (rows ≡ map T.stored kept) × AreInOrder cmp (listed it) kept)
         → Inside (state S.Store) (Looks (λ it found. AreInOrder cmp (listed it) found.items)) tx.old.conn tx.new.conn result }
 {
-    let rows = rows_of(tx, sql, &[])?;
+    let rows = rows_of(tx, sql, params)?;
     each(alloc, &rows)
 }
 
 fn idents_in<S: Alter>(tx: &mut Transaction<'_, S>, alloc: Global) -> Result<Vec<Ident>, Error>
     ensures { Inside (state S.Store) (Looks (λ it found. AreInOrder in_any_order it.idents found.items)) tx.old.conn tx.new.conn result }
 {
-    all_of(tx, alloc, texts::ALL_IDENTS)
+    all_of(tx, alloc, texts::ALL_IDENTS, &[])
 }
 
 fn cards_in<S: Alter>(tx: &mut Transaction<'_, S>, alloc: Global) -> Result<Vec<CardRow>, Error>
     ensures { Inside (state S.Store) (Looks (λ it found. AreInOrder in_any_order it.cards found.items)) tx.old.conn tx.new.conn result }
 {
-    all_of(tx, alloc, texts::ALL_CARDS)
+    all_of(tx, alloc, texts::ALL_CARDS, &[])
 }
 
+/// The entries at one place of their cards' histories.
+fn entries_at<S: Alter>(
+    tx: &mut Transaction<'_, S>,
+    alloc: Global,
+    ord: u32,
+) -> Result<Vec<EntryRow>, Error>
+    ensures { Inside (state S.Store) (Looks (λ it found. AreInOrder in_any_order (filter (λ e. e.ord == ord) it.entries) found.items))
+        tx.old.conn tx.new.conn result }
+{
+    all_of(tx, alloc, texts::ENTRIES_AT, &[values::number(ord)])
+}
+
+/// The entries from one place of their cards' histories on.
+fn entries_from<S: Alter>(
+    tx: &mut Transaction<'_, S>,
+    alloc: Global,
+    ord: u32,
+) -> Result<Vec<EntryRow>, Error>
+    ensures { Inside (state S.Store) (Looks (λ it found. AreInOrder in_any_order (filter (λ e. nat_le ord e.ord) it.entries) found.items))
+        tx.old.conn tx.new.conn result }
+{
+    all_of(tx, alloc, texts::ENTRIES_FROM, &[values::number(ord)])
+}
+
+/// All entries, read in parts: an answer's rows take many times the memory of its entries, and those of one part are let go
+/// before the next is asked.
 fn entries_in<S: Alter>(tx: &mut Transaction<'_, S>, alloc: Global) -> Result<Vec<EntryRow>, Error>
     ensures { Inside (state S.Store) (Looks (λ it found. AreInOrder in_any_order it.entries found.items)) tx.old.conn tx.new.conn result }
 {
-    all_of(tx, alloc, texts::ALL_ENTRIES)
+    let mut found = entries_from(tx, alloc, 3)?;
+    for ord in 0..3 {
+        let mut part = entries_at(tx, alloc, ord)?;
+        found.append(&mut part)?;
+    }
+    Ok(found)
 }
 
 fn targets_in<S: Alter>(tx: &mut Transaction<'_, S>, alloc: Global) -> Result<Vec<TargetRow>, Error>
     ensures { Inside (state S.Store) (Looks (λ it found. AreInOrder in_any_order it.targets found.items)) tx.old.conn tx.new.conn result }
 {
-    all_of(tx, alloc, texts::ALL_TARGETS)
+    all_of(tx, alloc, texts::ALL_TARGETS, &[])
 }
 
 fn state_rows_in<S: Alter>(
@@ -91,7 +123,7 @@ fn state_rows_in<S: Alter>(
 ) -> Result<Vec<StateRow>, Error>
     ensures { Inside (state S.Store) (Looks (λ it found. AreInOrder in_any_order it.states found.items)) tx.old.conn tx.new.conn result }
 {
-    all_of(tx, alloc, texts::ALL_STATES)
+    all_of(tx, alloc, texts::ALL_STATES, &[])
 }
 
 fn states_in<S: Alter>(
@@ -101,7 +133,7 @@ fn states_in<S: Alter>(
     ensures { Inside (state S.Store) (Looks (λ it found. AreInOrder in_any_order (map state_pair it.states) found.items))
         tx.old.conn tx.new.conn result }
 {
-    all_of(tx, alloc, texts::ALL_STATES)
+    all_of(tx, alloc, texts::ALL_STATES, &[])
 }
 
 fn counts_in<S: Alter>(
@@ -111,14 +143,14 @@ fn counts_in<S: Alter>(
     ensures { Inside (state S.Store) (Looks (λ it found. AreInOrder in_any_order (map count_pair it.counts) found.items))
         tx.old.conn tx.new.conn result }
 {
-    all_of(tx, alloc, texts::ALL_COUNTS)
+    all_of(tx, alloc, texts::ALL_COUNTS, &[])
 }
 
 /// The stored runs by site and number, inside a transaction.
 pub fn runs_in<S: Alter>(tx: &mut Transaction<'_, S>, alloc: Global) -> Result<Vec<RunRow>, Error>
     ensures { Inside (state S.Store) (Looks (λ it found. AreInOrder by_key it.runs found.items)) tx.old.conn tx.new.conn result }
 {
-    all_of(tx, alloc, texts::ALL_RUNS)
+    all_of(tx, alloc, texts::ALL_RUNS, &[])
 }
 
 /// The stored runs in the order in which they were stored, inside a transaction.
@@ -136,7 +168,7 @@ pub fn runs_in_turn<S: Alter>(
 pub fn marks_in<S: Alter>(tx: &mut Transaction<'_, S>, alloc: Global) -> Result<Vec<MarkRow>, Error>
     ensures { Inside (state S.Store) (Looks (λ it found. AreInOrder by_site it.settled found.items)) tx.old.conn tx.new.conn result }
 {
-    all_of(tx, alloc, texts::ALL_MARKS)
+    all_of(tx, alloc, texts::ALL_MARKS, &[])
 }
 
 /// The settled marks in the order of their table, inside a transaction.

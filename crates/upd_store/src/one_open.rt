@@ -55,6 +55,14 @@ fn is_below(purpose: Purpose<'_>) -> bool
     !matches!(purpose, Purpose::Writing)
 }
 
+/// Half the pages that are usual are kept in memory: 4 MB, which lie beside the rows of a whole library.
+fn options(seed: u64) -> Options {
+    Options {
+        cache_pages: 1_000,
+        ..Options::new(seed)
+    }
+}
+
 /// A library that was opened: over its trees, or through SQL.
 pub type Opened<S> = Result<TreeStore<S>, SqlStore<S>>;
 
@@ -196,14 +204,14 @@ pub fn opened<D: Disk + Drop>(
     ensures unopened { IfErr result IsUnopened }
 {
     if !is_below(purpose) {
-        return match through_sql(alloc, files, Options::new(seed)) {
+        return match through_sql(alloc, files, options(seed)) {
             Ok(library) => Ok(Err(library)),
             Err(fault) => Err(fault),
         };
     }
-    match stored(alloc, files, Options::new(seed)) {
+    match stored(alloc, files, options(seed)) {
         Ok(store) => over_either(alloc, store, purpose),
-        Err(left) => Err(why_not(alloc, left, Options::new(seed))),
+        Err(left) => Err(why_not(alloc, left, options(seed))),
     }
 }
 
