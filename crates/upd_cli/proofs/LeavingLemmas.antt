@@ -48,6 +48,26 @@ untouched_frames input output faults command fault failed unread unwritten quiet
   quiet = λ other. quiet;
 }
 
+-- what is known of a library that was opened either way
+pub either : {T E : Type 0} (l : Result T E) {A B C D : T → Type 0} {P Q R : E → Type 0} {G : Type 0}
+    → IfOk l A → IfOk l B → IfOk l C → IfOk l D → IfErr l P → IfErr l Q → IfErr l R
+    → ((s : T) → A s → B s → C s → D s → G) → ((s : E) → P s → Q s → R s → G) → G
+either (Ok s) a b c d p q r ok err = ok s a b c d
+either (Err s) a b c d p q r ok err = err s p q r
+
+-- what is owed of a library that was opened this way, and nothing of one that was opened the other way
+pub of_ok : {T E : Type 0} (A : T → Type 0) (l : Result T E) (s : T) → l ≡ Ok s → A s → IfOk l A
+of_ok A l s is held = subst (λ r. IfOk r A) (sym is) held
+
+pub of_err : {T E : Type 0} (P : E → Type 0) (l : Result T E) (e : E) → l ≡ Err e → P e → IfErr l P
+of_err P l e is held = subst (λ r. IfErr r P) (sym is) held
+
+pub no_err : {T E : Type 0} (P : E → Type 0) (l : Result T E) (s : T) → l ≡ Ok s → IfErr l P
+no_err P l s is = subst (λ r. IfErr r P) (sym is) tt
+
+pub no_ok : {T E : Type 0} (A : T → Type 0) (l : Result T E) (e : E) → l ≡ Err e → IfOk l A
+no_ok A l e is = subst (λ r. IfOk r A) (sym is) tt
+
 -- ---- what is read first, and then at the desk
 
 -- all that is read is read before the file is opened, or after it

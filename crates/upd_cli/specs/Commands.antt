@@ -126,7 +126,7 @@ module _ {S D : Type 0} {g : DiskGhosts D} (meaning : Ghosts S) (conn_of : S →
   IsDone (Backup file copy) status = IsSilent × IsCopied g held IsReadWhole status (before faults) (after faults)
   IsDone (Compact file copy) status = IsSilent × IsCopied g held IsMadeAnew status (before faults) (after faults)
   IsDone (Examine file) status = IsExamined (file_state {g = g}) held (ending_of status output faults)
-  IsDone (Replay file) status = IsReplayed g held (ending_of status output faults)
+  IsDone (Replay file) status = IsReplayed meaning conn_of below store_of held (ending_of status output faults)
   IsDone (Migrate file) status = IsSilent × IsMigrated g held left status (before faults) (after faults)
   IsDone (Explain fault) status = IsExplained fault.now (ending_of status output faults)
   IsDone (Shown text) status = ((status ≡ 0) ⊎ (status ≡ 3)) × IsShown (string_bytes text) (ending_of status output faults)

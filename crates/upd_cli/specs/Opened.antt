@@ -2,6 +2,7 @@
 use Rattle.std.specs.Prelude.{◌≡◌, ◌⊎◌, ℕ, Result, IfErr, IsErrAnd, IsTrue, MatchResult, OnErr, OnOk}
 use Rattle.sqlite_disk.specs.declared.Disk.{Ghosts as DiskGhosts}
 use Rattle.sqlite_store.specs.declared.store.FileStore.{FileStore}
+use Rattle.sqlite_store.specs.FileStore.{view}
 use Rattle.sqlite_trees.specs.Tree.{Trees}
 use Rattle.sqlite_wal.specs.Recovery.{Image}
 use Rattle.sqlite.specs.Effect.{Database}
@@ -19,6 +20,7 @@ use Rattle.upd_sql.specs.LibraryTables.{ShowsTables}
 use Rattle.upd_sql.specs.Making.{no_rows}
 use Rattle.upd_sql.specs.Schema.{library_schema, no_schema}
 use Rattle.upd_store.specs.Faults.{IsUnopened}
+use Rattle.upd_store.specs.TreeReads.{IsLibrary}
 use Rattle.upd_store.specs.Version.{HasVersion}
 use Rattle.upd_migrate.specs.Migrated.{HasKnown, MayMigrate, Migrates}
 
@@ -86,3 +88,12 @@ module _ {S : Type 0} (meaning : Ghosts S) where
     -- the library in the file was opened, and this was done to the store over it
     abbrev pub OnFile : (S → S → Type 0) → Type 0
     OnFile did = (old : S) × (new : S) × IsOpened old × did old new
+
+module _ {S D : Type 0} {g : DiskGhosts D} (meaning : Ghosts S) where
+  -- the library in the file was opened through SQL, and this was done to the store over its connection
+  abbrev pub ThroughSql : (S → Held (FileStore D g)) → Image → (S → S → Type 0) → Type 0
+  ThroughSql conn_of = OnFile meaning (λ s. (file_state (conn_of s)).committed.trees) (λ s. (file_state (conn_of s)).committed.schema ≡ library_schema)
+
+  -- so it was below SQL, to the store over its trees
+  abbrev pub BelowSql : (S → FileStore D g) → Image → (S → S → Type 0) → Type 0
+  BelowSql store_of = OnFile meaning (λ s. (view (store_of s)).committed) (λ s. IsLibrary (view (store_of s)).committed)

@@ -6,17 +6,14 @@ use Rattle.sqlite_store.specs.declared.store.FileStore.{FileStore}
 use Rattle.sqlite_store.specs.FileStore.{view}
 use Rattle.sqlite_trees.specs.View.{IsClean}
 use Rattle.sqlite_wal.specs.Recovery.{Image}
-use Rattle.sqlite.specs.Files.{file_state}
 use Rattle.sqlite.specs.Held.{Held}
 use Rattle.upd_text.specs.declared.fault.Fault.{Fault}
 use Rattle.upd_records.specs.Rows.{Rows}
 use Rattle.upd_row_store.specs.declared.meaning.Meaning.{Ghosts}
 use Rattle.upd_sql.specs.Commits.{ShowsIn}
-use Rattle.upd_sql.specs.Schema.{library_schema}
 use Rattle.upd_store.specs.Faults.{IsUnopened}
 use Rattle.upd_store.specs.OneOpen.{IsBelow, IsServed}
 use Rattle.upd_store.specs.OpenedAgain.{AreFilesOf, Closes}
-use Rattle.upd_store.specs.TreeReads.{IsLibrary}
 use Rattle.upd_store.specs.declared.one_open.Purpose.{Purpose}
 use Rattle.upd_store.specs.declared.one_open.Purpose.TheVariants as purpose
 use Rattle.upd_subcommands.specs.Command.{Ending, ending}
@@ -26,7 +23,7 @@ use Rattle.upd_subcommands.specs.ListingFile.{CorrectsListed}
 use Rattle.upd_subcommands.specs.Streams.{Stream, after, before}
 use Rattle.upd_words.specs.declared.words.Command.{Command}
 use Rattle.upd_words.specs.declared.words.Command.TheVariants.{Ask, Correct, CorrectAt, CorrectParts, Run, Serve, Spool, Try}
-use Rattle.upd_cli.specs.Opened.{IsWarmed, OnFile}
+use Rattle.upd_cli.specs.Opened.{BelowSql, IsWarmed, ThroughSql}
 
 -- the ending with this status and these streams
 abbrev pub ending_of : {W E : Type 0} → ℕ → Stream W → Stream E → Ending
@@ -78,8 +75,7 @@ module _ {S D : Type 0} {g : DiskGhosts D} (meaning : Ghosts S) (conn_of : S →
     {R W E : Type 0} (input : Stream R) (output : Stream W) (faults : Stream E) where
   -- a command was carried out at the desk of the library in the file, through SQL, and the files were closed
   abbrev pub WorksOn : Command → List ℕ → Result ℕ Fault → Type 0
-  WorksOn command text ended =
-      OnFile meaning (λ s. (file_state (conn_of s)).committed.trees) (λ s. (file_state (conn_of s)).committed.schema ≡ library_schema) held
+  WorksOn command text ended = ThroughSql meaning conn_of held
       (λ old new. Works meaning input output faults command text ended old new × IsSomeAnd left (λ these. Closes these (conn_of new)))
 
   -- the trees of this library serve a command
@@ -88,8 +84,7 @@ module _ {S D : Type 0} {g : DiskGhosts D} (meaning : Ghosts S) (conn_of : S →
 
   -- a question or a repeat was carried out at a desk over the trees of the library in the file, whose files are left
   abbrev pub WorksBelow : Command → List ℕ → Result ℕ Fault → Type 0
-  WorksBelow command text ended = IsBelow (purpose_of command)
-      × OnFile below (λ s. (view (store_of s)).committed) (λ s. IsLibrary (view (store_of s)).committed) held
+  WorksBelow command text ended = IsBelow (purpose_of command) × BelowSql below store_of held
       (λ old new. Works below input output faults command text ended old new × Serves command old × IsSomeAnd left (λ these. AreFilesOf these (store_of new)))
 
   -- Over what was read first a command was carried out at a desk of the library in the file; or an edited text was answered from the listing in it; or

@@ -59,7 +59,7 @@ pub(crate) fn compact_file<St: Start>(
     ensures failed { IfErr result (λ fault. exit_status fault.kind ≡ 3) }
 {
     match SqlStore::open(rt, file, false, start) {
-        Ok(library) => compact(rt, library.into_connection(), file, copy),
+        Ok(library) => compact(rt, library, file, copy),
         Err(fault) => Err(fault),
     }
 }

@@ -11,12 +11,10 @@ pub use Rattle.upd_deck.proofs.Common.{◌⊎◌, Err, IsTrue, Ok, Result}
 pub use Rattle.upd_desk.proofs.Common.{ArrivalView, Came, IsLost, OfMemory, fault_at}
 pub use Rattle.upd_diff.proofs.Common.{IsSame, Rows, count_cons, inl, inr}
 pub use Rattle.upd_keep.specs.Examining.{reply_bytes}
-pub use Rattle.upd_keep.specs.Keeping.{AreKept}
-pub use Rattle.upd_keep.specs.Replaying.{AreInTurn, arrival_of, journal_with}
+pub use Rattle.upd_keep.specs.Replaying.{arrival_of, journal_with}
 pub use Rattle.upd_row_store.proofs.Common.{count_by}
-pub use Rattle.upd_sql.proofs.Common.{AreInOrder, HasCleanDisk, State, by_site, clean_before, library_schema, no_rows, state}
+pub use Rattle.upd_sql.proofs.Common.{HasCleanDisk, State, clean_before, library_schema, no_rows, state}
 pub use Rattle.upd_sql.proofs.Typed.{survives_itself}
-pub use Rattle.upd_sql.proofs.WholeLemmas.{looks_more}
 pub use Rattle.upd_store.proofs.Common.{OfStore, file_state}
 pub use Rattle.upd_store.specs.Faults.{kind_for}
 pub use Rattle.upd_text.specs.declared.fault.Fault.{Fault}

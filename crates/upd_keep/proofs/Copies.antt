@@ -14,7 +14,9 @@ use Rattle.sqlite_wal.specs.Reads.{AreClean}
 use Rattle.sqlite_store.specs.Laws.{shut_if_dirty_at}
 use Rattle.sqlite.proofs.StateLemmas.{clean_if_open}
 use Rattle.upd_keep.proofs.Common.{inl}
-use Rattle.upd_keep.specs.Copying.{HasRowsOf, IsMadeAnew, IsReadWhole}
+use Rattle.sqlite.specs.State.{HasCleanDisk}
+use Rattle.upd_keep.specs.Copying.{HasOnlyRows, IsMadeAnew, IsOnlyRead, IsReadWhole, ShowsOnly}
+use Rattle.upd_keep.specs.declared.stored_tables.StoredTables.{StoredTables}
 use Rattle.upd_store.specs.Faults.{IsUnopened}
 
 all_read : (file bytes : List ℕ) → length bytes ≡ length file → (0 < length bytes → Holds file 0 bytes) → bytes ≡ file
@@ -55,13 +57,15 @@ pub never_write : (fault : Fault) → IsLost fault → fault.kind ≡ Write → 
 never_write fault (OfMemory f kind at) write = let no : NoMemory ≡ Write = sym kind ∙ write in cc
 never_write fault (OfStore f kind at) write = let no : Store ≡ Write = sym kind ∙ write in cc
 
--- bytes were read whole of a library with these rows, from files that are honest
-pub anew : {D E : Type 0} {g : Ghosts D} {h : Ghosts E} (conn seen : Held (FileStore D g)) (made : Held (FileStore E h))
-    → ((log db : E) → AreClean h log db) → HasRowsOf (file_state conn) (file_state seen) (file_state made) → IsReadWhole made → IsMadeAnew conn
-anew conn seen made honest (reads, rest) (bytes, files, whole) =
+-- a library was only read, and bytes were read whole of another with the rows that were read, from files that are honest
+pub anew : {D E : Type 0} {g : Ghosts D} {h : Ghosts E} (conn seen : Held (FileStore D g)) (all : StoredTables) (made : Held (FileStore E h))
+    → ((log db : E) → AreClean h log db) → IsOnlyRead (file_state conn) (file_state seen)
+    → (HasCleanDisk (file_state seen) → ShowsOnly all (file_state conn).committed.trees) → HasOnlyRows all (file_state made) → IsReadWhole made
+    → IsMadeAnew conn
+anew conn seen all made honest only found shows (bytes, files, whole) =
     let was = whole (honest files.log files.db) in
     let clean = clean_if_open (view made.store) (shut_if_dirty_at made.store) was.0 in
-    (seen, reads, (rest.0, rest.1, (bytes, (file_state made).committed, rest.2 clean was.0, was.1)))
+    (seen, only, (all, found, (bytes, (file_state made).committed.trees, shows clean was.0, was.1)))
 
 -- how a copy ends says this of it, and so that
 pub ends_as : {P Q : Type 0} (r : Result (Unit {0}) Fault) → (P → Q) → MatchResult r (λ _. P) (λ fault. fault.kind ≡ Write → P)

@@ -1,5 +1,4 @@
 pub mod Common
-mod Listing
 mod VersionRows
 mod Copies
 mod SameLength

@@ -1,30 +1,19 @@
--- Runs that are handed in one after the other at a desk, and tables that have the same rows as those that it keeps.
-use Rattle.upd_keep.proofs.Common.{◌≡◌, true, false, ℕ, ◌+◌, ◌<◌, Bool, ◌&&◌, List, [], ◌∷◌, ◌++◌, drop, length, take, Option, Some, None, Result, Ok, Err}
-use Rattle.upd_keep.proofs.Common.{IsTrue, inl, inr, refl, sym, ap, subst, ◌∙◌, arith, rules, count_by, IsOkUnless, nat_tests, Fault, NoMemory, Store}
-use Rattle.upd_keep.proofs.Common.{fault_at, IsSame, Rows, count_cons, IsLost, OfMemory, OfStore, no_rows, ArrivalView, Came, arrival_of, journal_with}
-use Rattle.std.proofs.Common.{◌↔◌, ◌==◌, cond, map, IfErr}
-use Rattle.std.specs.Cmp.{booleans_Decides}
-use Rattle.std.specs.List.{filter}
-use Rattle.std.proofs.Math.Bool.{beq}
-use Rattle.std.proofs.lemmas.Bool.{and_parts}
-use Rattle.std.proofs.lemmas.List.{append_assoc, take-append-drop}
-use Rattle.upd_core.specs.Library.{LibraryView}
-use Rattle.upd_core.specs.Status.{status_of}
-use Rattle.upd_core.specs.TargetCounts.{live_count}
-use Rattle.upd_core.specs.Targets.{is_same}
+-- Runs that are handed in one after the other at a desk, and the first table that is another.
+use Rattle.upd_keep.proofs.Common.{◌≡◌, false, ℕ, Bool, List, [], ◌∷◌, ◌++◌, length, Option, Some, None, Result, Ok, Err, IsTrue, inl, inr, refl, sym, ap, subst, ◌∙◌}
+use Rattle.upd_keep.proofs.Common.{arith, rules, count_by, IsOkUnless, Fault, NoMemory, Store, fault_at, IsSame, Rows, count_cons, IsLost, OfMemory, OfStore}
+use Rattle.upd_keep.proofs.Common.{no_rows, ArrivalView, Came, arrival_of, journal_with}
+use Rattle.std.proofs.Common.{◌↔◌, cond, map, IfErr}
 use Rattle.upd_core.specs.declared.states.States.{States}
-use Rattle.upd_core.proofs.CountedLemmas.{same_target, target_same}
-use Rattle.upd_records.specs.Rows.{CountRow, RunView, Shows, ShowsStates, StateRow, count_rows, same_ref, state_rows}
+use Rattle.upd_records.specs.Rows.{RunView}
 use Rattle.upd_records.specs.declared.rows.LibraryRows.{LibraryRows}
-use Rattle.upd_records.proofs.CountLemmas.{same_filter, same_trans}
-use Rattle.upd_records.proofs.EqualLemmas.{same_ref_is, same_ref_own}
+use Rattle.upd_records.proofs.CountLemmas.{same_map, same_trans}
 use Rattle.upd_row_store.specs.declared.meaning.Meaning.{Ghosts}
 use Rattle.upd_row_store.specs.Assembling.{AreRowsOf}
-use Rattle.upd_row_store.specs.Keeping.{IsLater}
+use Rattle.upd_row_store.specs.Keeping.{IsLater, IsShown, LeavesRead}
 use Rattle.upd_row_store.specs.Tables.{AreRead, count_pair, state_pair}
 use Rattle.upd_desk.specs.Holding.{EachHeld, Holds, IsHeld, IsOwed}
 use Rattle.upd_desk.specs.Journal.{Journal, answer}
-use Rattle.upd_keep.specs.Replaying.{HasReply, HaveReplies}
+use Rattle.upd_keep.specs.Replaying.{DiffersFirst, HasReply, HaveReplies, IsFirst, IsFirstOther}
 
 -- ---- runs, one after the other
 
@@ -65,96 +54,18 @@ pub memory_lost : {A : Type 0} (r : Result A Fault) → IsOkUnless r (fault_at N
 memory_lost (Ok x) is = tt
 memory_lost (Err f) is = OfMemory f (ap (λ (g : Fault). g.kind) is) (ap (λ (g : Fault). g.at) is)
 
--- a list around one of its elements
-pub split_at : {A : Type 0} (xs : List A) (i : ℕ) (x : A) → take (i + 1) xs ≡ take i xs ++ x ∷ [] → xs ≡ take i xs ++ x ∷ drop (i + 1) xs
-split_at xs i x more =
-    sym (take-append-drop (i + 1) xs) ∙ ap (λ l. l ++ drop (i + 1) xs) more ∙ append_assoc (take i xs) (x ∷ []) (drop (i + 1) xs)
+pub no_items : {A : Type 0} (xs : List A) → length xs ≡ 0 → xs ≡ []
+no_items [] none = refl
+no_items (x ∷ xs) none = absurd (omega (arith, none))
 
 -- tables without rows hold the empty journal
 pub empty_holds : Holds [] no_rows
 empty_holds = search rules
 
--- ---- tables with the same rows
+-- ---- tables that are compared
 
 same_back : {A : Type 0} {xs ys : List A} → IsSame xs ys → IsSame ys xs
 same_back same = record { passes = λ test. sym (same.passes test) }
-
-pub same_library : (some others : Rows) (l : LibraryView) (rows : LibraryRows) → AreRowsOf some rows → AreRowsOf others rows → Shows others l → Shows some l
-same_library some others l rows p q shown = record {
-  idents = same_trans (same_back p.idents) (same_trans q.idents shown.idents);
-  cards = same_trans (same_back p.cards) (same_trans q.cards shown.cards);
-  entries = same_trans (same_back p.entries) (same_trans q.entries shown.entries);
-  targets = same_trans (same_back p.targets) (same_trans q.targets shown.targets);
-}
-
-none_same : {A : Type 0} (xs : List A) → IsSame xs [] → xs ≡ []
-none_same [] same = refl
-none_same (x ∷ xs) same = absurd (omega (arith, same.passes (λ y. true), count_cons (λ y. true) x xs))
-
--- where none was found, none was wanted
-pub none_wanted : {A : Type 0} (found wanted : List A) → IsSame found wanted → length found ≡ 0 → wanted ≡ []
-none_wanted [] wanted same none = none_same wanted (same_back same)
-none_wanted (x ∷ xs) wanted same none = absurd (omega (arith, none))
-
--- where some were found, some were wanted
-pub some_wanted : {A : Type 0} (found wanted : List A) → IsSame found wanted → 0 < length found → wanted ≡ [] → ⊥
-some_wanted [] wanted same some none = absurd (omega (arith, some))
-some_wanted (x ∷ xs) wanted same some none = absurd (let e = ap length (none_same (x ∷ xs) (subst (IsSame (x ∷ xs)) none same)) in omega (arith, e))
-
--- the only element is known by a test of its own
-one_same : {A : Type 0} (own : A → Bool) (y : A) → own y ≡ true → ((x : A) → own x ≡ true → x ≡ y) → (xs : List A) → IsSame xs (y ∷ []) → xs ≡ y ∷ []
-one_same own y is alone [] same = absurd (omega (arith, same.passes (λ z. true), count_cons (λ z. true) y []))
-one_same {A} own y is alone (x ∷ []) same = go (own x) refl
-  where
-    go : (b : Bool) → own x ≡ b → x ∷ [] ≡ y ∷ []
-    go true e = ap (λ z. z ∷ []) (alone x e)
-    go false e =
-        let one = ap {B = ℕ} (λ b. cond b 1 0) is in
-        let none = ap {B = ℕ} (λ b. cond b 1 0) e in
-        absurd (omega (arith, one, none, same.passes own, count_cons own x [], count_cons own y []))
-one_same own y is alone (x ∷ z ∷ xs) same =
-    absurd (omega (arith, same.passes (λ u. true), count_cons (λ u. true) y [], count_cons (λ u. true) x (z ∷ xs), count_cons (λ u. true) z xs))
-
-abbrev is_state : StateRow → StateRow → Bool
-is_state r s = same_ref r.card s.card && beq s.active r.active
-
-one_state : (r s : StateRow) → is_state r s ≡ true → s ≡ r
-one_state r s e =
-    let two = and_parts (same_ref r.card s.card) (beq s.active r.active) e in
-    let card = sym (same_ref_is r.card s.card two.0) in
-    let active = (booleans_Decides s.active r.active).0 two.1 in
-    λ i. record { card = card i; active = active i }
-
-own_state : (r : StateRow) → is_state r r ≡ true
-own_state r = rw (same_ref_own r.card, (booleans_Decides r.active r.active).1 refl) refl
-
-abbrev is_counted : CountRow → CountRow → Bool
-is_counted r s = is_same r.target s.target && (s.n == r.n)
-
-one_count : (r s : CountRow) → is_counted r s ≡ true → s ≡ r
-one_count r s e =
-    let two = and_parts (is_same r.target s.target) (s.n == r.n) e in
-    let target = sym (same_target r.target s.target two.0) in
-    let n = equal two.1 in
-    λ i. record { target = target i; n = n i }
-  where
-    equal : (s.n == r.n) ≡ true → s.n ≡ r.n
-    equal e = grind (arith, nat_tests)
-
-own_count : (r : CountRow) → is_counted r r ≡ true
-own_count r = let same : (r.n == r.n) ≡ true = grind (arith, nat_tests) in rw (target_same r.target, same) refl
-
-state_shown : (xs : List StateRow) (o : Option Bool) (r : StateRow) → IsSame xs (state_rows r.card o) → xs ≡ state_rows r.card o
-state_shown xs None r same = none_same xs same
-state_shown xs (Some active) r same =
-    let own : StateRow = record { card = r.card; active = active } in one_same (is_state own) own (own_state own) (one_state own) xs same
-
-count_shown : (xs : List CountRow) (r : CountRow) → IsSame xs (count_rows r.target r.n) → xs ≡ count_rows r.target r.n
-count_shown xs r same = go (r.n == 0) same
-  where
-    go : (b : Bool) → IsSame xs (cond b [] (r ∷ [])) → xs ≡ cond b [] (r ∷ [])
-    go true same = none_same xs same
-    go false same = one_same (is_counted r) r (own_count r) (one_count r) xs same
 
 -- what lists have the same images by a function that has an inverse
 unmapped : {A B : Type 0} (f : A → B) (back : B → A) → ((x : A) → back (f x) ≡ x) → (xs ys : List A) → IsSame (map f xs) (map f ys) → IsSame xs ys
@@ -167,17 +78,58 @@ unmapped {A} f back is xs ys same = record { passes = λ test. sym (counted test
         let first = ap {B = ℕ} (λ x. cond (test x) 1 0) (is z) in
         omega (arith, rest, first, count_cons (λ p. test (back p)) (f z) (map f zs), count_cons test z zs)
 
-pub same_states : (some others : Rows) (l : LibraryView) (found : States) → AreRead some found → AreRead others found → ShowsStates others l
-    → ShowsStates some l
-same_states some others l found p q shown = record {
-  states = λ card. state_shown _ (status_of card l) (record { card = card; active = true })
-      (subst (IsSame (filter (λ r. same_ref card r.card) some.states)) (shown.states card) (same_filter (λ r. same_ref card r.card) states));
-  counts = λ target. count_shown _ (record { target = target; n = live_count l target })
-      (subst (IsSame (filter (λ r. is_same target r.target) some.counts)) (shown.counts target) (same_filter (λ r. is_same target r.target) counts));
-}
-  where
-    states : IsSame some.states others.states
-    states = unmapped state_pair (λ p. record { card = p.0; active = p.1 }) (λ r. refl) some.states others.states (same_trans (same_back p.states) q.states)
+-- lists that were read are the same where those are of which they were read
+carried : {A : Type 0} {vs ws xs ys : List A} → IsSame vs xs → IsSame ws ys → IsSame vs ws ↔ IsSame xs ys
+carried p q = (λ same. same_trans (same_back p) (same_trans same q), λ same. same_trans p (same_trans same (same_back q)))
 
-    counts : IsSame some.counts others.counts
-    counts = unmapped count_pair (λ p. record { target = p.0; n = p.1 }) (λ r. refl) some.counts others.counts (same_trans (same_back p.counts) q.counts)
+carried_pairs : {A B : Type 0} (f : A → B) (back : B → A) → ((x : A) → back (f x) ≡ x) → {vs ws : List B} (xs ys : List A)
+    → IsSame vs (map f xs) → IsSame ws (map f ys) → IsSame vs ws ↔ IsSame xs ys
+carried_pairs f back is xs ys p q = (λ same. unmapped f back is xs ys ((carried p q).0 same), λ same. (carried p q).1 (same_map f same))
+
+first_carried : {A B L M : Type 0} {table : List ℕ} {found : Option (List ℕ)} → A ↔ B → (L → M) → IsFirst A table found L → IsFirst B table found M
+first_carried both later (inl (other, is)) = inl (λ same. other (both.1 same), is)
+first_carried both later (inr (same, rest)) = inr (both.0 same, later rest)
+
+-- the first table that is another is so of the tables that were read
+pub differs : (rows made : Rows) (some others : LibraryRows) (own made_own : States) (found : Option (List ℕ)) → AreRowsOf rows some → AreRead rows own
+    → AreRowsOf made others → AreRead made made_own
+    → IsFirstOther (IsSame some.idents.items others.idents.items) (IsSame some.cards.items others.cards.items)
+    (IsSame some.entries.items others.entries.items) (IsSame some.targets.items others.targets.items)
+    (IsSame own.states.items made_own.states.items) (IsSame own.counts.items made_own.counts.items) found → DiffersFirst rows made found
+differs rows made some others own made_own found p s q t =
+    first_carried (carried p.idents q.idents) (first_carried (carried p.cards q.cards) (first_carried (carried p.entries q.entries)
+    (first_carried (carried p.targets q.targets)
+    (first_carried (carried_pairs state_pair (λ r. record { card = r.0; active = r.1 }) (λ r. refl) rows.states made.states s.states t.states)
+    (first_carried (carried_pairs count_pair (λ r. record { target = r.0; n = r.1 }) (λ r. refl) rows.counts made.counts s.counts t.counts) (λ none. none))))))
+
+none_first : {A L : Type 0} {table : List ℕ} → IsFirst A table None L → A × L
+none_first (inl (other, is)) = absurd (cc)
+none_first (inr rest) = rest
+
+-- where no table is another, what was read is so of the same tables
+pub same_read : (rows : Rows) (some others : LibraryRows) (own other_own : States)
+    → IsFirstOther (IsSame some.idents.items others.idents.items) (IsSame some.cards.items others.cards.items)
+    (IsSame some.entries.items others.entries.items) (IsSame some.targets.items others.targets.items)
+    (IsSame own.states.items other_own.states.items) (IsSame own.counts.items other_own.counts.items) None
+    → AreRowsOf rows others → AreRead rows other_own → AreRowsOf rows some × AreRead rows own
+same_read rows some others own other_own none p s =
+    let (idents, more) = none_first none in
+    let (cards, more2) = none_first more in
+    let (entries, more3) = none_first more2 in
+    let (targets, more4) = none_first more3 in
+    let (states, more5) = none_first more4 in
+    let (counts, _) = none_first more5 in (
+      record {
+        idents = same_trans idents p.idents;
+        cards = same_trans cards p.cards;
+        entries = same_trans entries p.entries;
+        targets = same_trans targets p.targets;
+      },
+      record { states = same_trans states s.states; counts = same_trans counts s.counts },
+    )
+
+-- what a store showed before an answer it shows after it
+pub still_shown : {S A : Type 0} {meaning : Ghosts S} {x : A} {old new : S} → LeavesRead meaning (Ok x) old new → meaning.is_honest new → (rows : Rows)
+    → IsShown meaning rows old → IsShown meaning rows new
+still_shown {meaning = meaning} leaves honest rows shown =
+    subst (λ image. meaning.shows image rows) (sym (leaves.same.same honest (leaves.opens honest))) shown

@@ -9,15 +9,13 @@ use Rattle.sqlite_trees.specs.View.{IsClean}
 use Rattle.sqlite_store.specs.declared.store.FileStore.{FileStore}
 use Rattle.sqlite_store.specs.FileStore.{faults, view}
 use Rattle.sqlite.specs.Closing.{IsCopied}
-use Rattle.sqlite.specs.Effect.{Database}
 use Rattle.sqlite.specs.Files.{HoldsDatabase, file_state}
 use Rattle.sqlite.specs.Held.{Held}
 use Rattle.sqlite.specs.State.{State, HasCleanDisk}
 use Rattle.upd_records.specs.Rows.{Rows}
-use Rattle.upd_sql.specs.LibraryTables.{ShowsTables}
-use Rattle.upd_keep.specs.Examining.{Reads}
+use Rattle.upd_sql.specs.Commits.{ShowsIn}
 use Rattle.upd_keep.specs.Replaying.{AreStoredTables}
-use Rattle.upd_keep.specs.declared.run_history.StoredTables.{StoredTables}
+use Rattle.upd_keep.specs.declared.stored_tables.StoredTables.{StoredTables}
 
 -- a file with these bytes, and without a log, holds the database
 abbrev pub IsWholeCopy : List ℕ → Trees → Type 0
@@ -45,20 +43,23 @@ module _ {D : Type 0} {g : Ghosts D} (conn : Held (FileStore D g)) where
   abbrev pub FailsToCopy : Type 0
   FailsToCopy = FailsToClose ⊎ FailsToReadFile
 
--- all that a database can show are these rows, with their runs in this order
-abbrev pub ShowsOnly : StoredTables → Database → Type 0
-ShowsOnly all db = (it : Rows) → ShowsTables it db → AreStoredTables it all
+-- all that trees can show are these rows, with their runs in this order
+abbrev pub ShowsOnly : StoredTables → Trees → Type 0
+ShowsOnly all trees = (it : Rows) → ShowsIn trees it → AreStoredTables it all
 
 -- so it is of what was committed
 abbrev pub HasOnlyRows : StoredTables → State → Type 0
-HasOnlyRows all made = HasCleanDisk made → IsTrue made.is_open → ShowsOnly all made.committed
+HasOnlyRows all made = HasCleanDisk made → IsTrue made.is_open → ShowsOnly all made.committed.trees
 
--- a library was only read, and what was read of it is all that another shows
-abbrev pub HasRowsOf : State → State → State → Type 0
-HasRowsOf old seen made = Reads old seen × ((all : StoredTables) × (HasCleanDisk seen → ShowsOnly all old.committed) × HasOnlyRows all made)
+-- A library was only read: what was committed stays, and a crash leaves nothing that it could not leave before.
+pub record IsOnlyRead (old new : State) : Type 0 where
+  pub clean : HasCleanDisk new → HasCleanDisk old
+  pub was_open : HasCleanDisk new → IsTrue new.is_open → IsTrue old.is_open
+  pub same : HasCleanDisk new → IsTrue new.is_open → new.committed.trees ≡ old.committed.trees
+  pub crash : HasCleanDisk new → (trees : Trees) → new.may_leave trees → old.may_leave trees
 
 -- The library in a connection was only read, and bytes were made that are a whole database. What was read is all that both show.
 abbrev pub IsMadeAnew : {D : Type 0} {g : Ghosts D} → Held (FileStore D g) → Type 0
-IsMadeAnew {D} {g} conn = (seen : Held (FileStore D g)) × Reads (file_state conn) (file_state seen)
-    × ((all : StoredTables) × (HasCleanDisk (file_state seen) → ShowsOnly all (file_state conn).committed)
-    × ((bytes : List ℕ) × (made : Database) × ShowsOnly all made × IsWholeCopy bytes made.trees))
+IsMadeAnew {D} {g} conn = (seen : Held (FileStore D g)) × IsOnlyRead (file_state conn) (file_state seen)
+    × ((all : StoredTables) × (HasCleanDisk (file_state seen) → ShowsOnly all (file_state conn).committed.trees)
+    × ((bytes : List ℕ) × (made : Trees) × ShowsOnly all made × IsWholeCopy bytes made))

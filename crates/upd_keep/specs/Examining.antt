@@ -17,9 +17,7 @@ use Rattle.upd_core.specs.Library.{is_deck_kind}
 use Rattle.upd_core.specs.declared.ident.Ident.{Ident}
 use Rattle.upd_examine.specs.Findings.{AreSoundRows}
 use Rattle.upd_records.specs.Rows.{Rows, RunView}
-use Rattle.upd_row_store.specs.Assembling.{AreRowsOf}
 use Rattle.upd_row_store.specs.Keeping.{IsLost}
-use Rattle.upd_row_store.specs.Tables.{AreRead}
 use Rattle.upd_sql.specs.Commits.{MayKeep, WasOpen}
 use Rattle.upd_sql.specs.LibraryTables.{ShowsTables}
 use Rattle.upd_sql.specs.Schema.{library_schema, meta}
@@ -27,9 +25,9 @@ use Rattle.upd_sqlite.specs.Steps.{Steps}
 use Rattle.upd_sqlite.specs.Stored.{HasRows}
 use Rattle.upd_store.specs.Version.{HasVersion}
 use Rattle.upd_views.specs.SiteLines.{both}
-use Rattle.upd_keep.specs.Keeping.{AreKept}
+use Rattle.upd_keep.specs.Replaying.{AreStoredTables}
 use Rattle.upd_keep.specs.Situations.{situation_at_version, situation_of}
-use Rattle.upd_keep.specs.declared.all_rows.AllRows.{AllRows}
+use Rattle.upd_keep.specs.declared.stored_tables.StoredTables.{StoredTables}
 use Rattle.upd_keep.specs.declared.file_examination.Examined.{Examined}
 use Rattle.upd_keep.specs.declared.file_examination.Examined.TheVariants.{Sound, Unsound}
 use Rattle.upd_keep.specs.declared.file_examination.Report.{Report}
@@ -45,12 +43,6 @@ pub record SeesVersion {X : Type 0} (old new : State) (r : Result X Error) : Typ
   pub steps : Steps old new r
   pub was_open : WasOpen old new r
   pub one : HasCleanDisk new → IfOk r (λ _. HasOneVersion old.now)
-
--- The rows of tables, each as often as it is there.
-pub record AreAllRows (rows : Rows) (all : AllRows) : Type 0 where
-  pub library : AreRowsOf rows all.library
-  pub states : AreRead rows all.states
-  pub kept : AreKept rows all.kept
 
 -- whether an ident is a deck, common or not, that is not purged
 abbrev pub is_held_deck : Ident → Bool
@@ -70,9 +62,9 @@ sound_line decks cards runs replies size =
 -- The size of the file is what the system says.
 abbrev pub IsFoundIn : Rows → Examined → Type 0
 IsFoundIn rows (Sound line) =
-    (all : AllRows) × AreAllRows rows all × AreSoundRows all.library all.states all.kept.runs.items all.kept.marks.items
+    (all : StoredTables) × AreStoredTables rows all × AreSoundRows all.library all.states all.kept.runs.items all.kept.marks.items
     × ((size : ℕ) × (line.items ≡ sound_line (count_by is_held_deck rows.idents) (length rows.cards) (length rows.runs) (reply_bytes all.kept.runs.items) size))
-IsFoundIn rows (Unsound lines) = (all : AllRows) × AreAllRows rows all × (¬ AreSoundRows all.library all.states all.kept.runs.items all.kept.marks.items)
+IsFoundIn rows (Unsound lines) = (all : StoredTables) × AreStoredTables rows all × (¬ AreSoundRows all.library all.states all.kept.runs.items all.kept.marks.items)
 
 -- Calls that only read: a library that is committed stays, also after a crash.
 pub record Reads (old new : State) : Type 0 where

@@ -1,4 +1,3 @@
-pub mod Keeping
 pub mod PageSums
 pub mod Copying
 pub mod Examining

@@ -1,5 +1,5 @@
 -- What there is in place of a library: its words, and how a version or an error says it.
-use Rattle.std.specs.Prelude.{ℕ, ◌==◌, nat_lt, Bool, true, false, if◌then◌else◌, List, codes, Option, Some, None, Result, Ok, Err}
+use Rattle.std.specs.Prelude.{ℕ, ◌==◌, nat_lt, Bool, true, false, if◌then◌else◌, List, ◌++◌, codes, Option, Some, None, Result, Ok, Err}
 use Rattle.std.specs.declared.io.ErrorKind.{ErrorKind}
 use Rattle.std.specs.declared.io.ErrorKind.TheVariants as io
 use Rattle.sqlite.specs.declared.error.ErrorCode.TheVariants as code
@@ -29,7 +29,8 @@ words_of NoPermission = codes "no permission to read it: let the user read and w
 words_of ReadOnly = codes "it can't be written, and that is needed to look at it: let the user write it and its folder, or copy it"
 words_of CannotOpen = codes "it can't be opened: let the user write its folder; no link or journal may be beside it"
 words_of InUse = codes "it is in use by another command or a server: try again once that has ended"
-words_of Damaged = codes "the file or its log is damaged, or another program wrote to one: copy both; then move away a log of another file, restore a backup, or use `sqlite3 COPY .dump`"
+words_of Damaged = codes "the file or its log is damaged, or another program wrote to one: copy both; then move away a log of another file, "
+    ++ codes "restore a backup, or use `sqlite3 COPY .dump`"
 words_of BreaksRules = codes "a database with tables or rows that upd can't take, or a damaged one: check the path, or restore a backup"
 words_of NotLibrary = codes "a database without a library: check the path; after an `upd init` that was ended, call it again"
 words_of OlderSchema = codes "a library of an older schema: copy it, then `upd migrate`"

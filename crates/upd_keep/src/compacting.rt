@@ -1,15 +1,15 @@
 //! A library made anew: its rows are put into an empty one in memory, read back and compared, and the bytes of that one are
 //! written. What puts them there needs no proof.
-ghost use Rattle.std.specs.Prelude.{◌≡◌, ◌⊎◌, false, IfErr, IfOk, MatchResult};
+ghost use Rattle.std.specs.Prelude.{◌≡◌, ◌⊎◌, IfErr, IfOk, MatchResult};
 ghost use Rattle.sqlite.specs.Files.{file_state};
 ghost use Rattle.sqlite.specs.Held.{state};
 ghost use Rattle.upd_store.specs.Faults.{IsUnopened};
-ghost use Rattle.upd_keep.specs.Copying.{HasOnlyRows, HasRowsOf, IsMadeAnew};
+ghost use Rattle.upd_keep.specs.Copying.{HasOnlyRows, IsMadeAnew};
 ghost use Rattle.upd_text.specs.declared.fault.FaultKind.TheVariants.{Write};
 
 use crate::copying::backup;
 use crate::other_tables::are_same_tables;
-use crate::run_history::{StoredTables, stored_tables};
+use crate::stored_tables::{StoredTables, stored_tables};
 use crate::versions::only_version;
 use sqlite::{Alter, Connection, Error, FileStore, Options, Row, Transaction};
 use sqlite_disk::{Disk, Files, Memory};
@@ -92,44 +92,36 @@ fn compared<S: Rising + Drop>(
     ensures same { IfOk result (λ made. HasOnlyRows tables.now (state S.Store made)) }
     ensures unopened { IfErr result IsUnopened }
 {
-    match SqlStore::adopt(made) {
-        Ok(store) => {
-            let mut made = store.into_connection();
-            match stored_tables(&mut made, alloc) {
-                Ok(found) => match are_same_tables(alloc, tables, &found) {
-                    Ok(true) => Ok(made),
-                    Ok(false) => Err(store_at(0)),
-                    Err(lost) => Err(no_memory(lost)),
-                },
-                Err(error) => Err(fault_of(error)),
-            }
-        }
-        Err((fault, _)) => Err(fault),
+    let mut made = match SqlStore::adopt(made) {
+        Ok(made) => made,
+        Err((fault, _)) => return Err(fault),
+    };
+    match stored_tables(alloc, &mut made) {
+        Ok(found) => match are_same_tables(alloc, tables, &found) {
+            Ok(true) => Ok(made.into_connection()),
+            Ok(false) => Err(store_at(0)),
+            Err(lost) => Err(no_memory(lost)),
+        },
+        Err(fault) => Err(fault),
     }
 }
 
-/// A library made in an empty database, with the rows of another, which were compared.
+/// A library made in an empty database, with the rows of another, which were read before and are compared.
 fn made_in<S: Rising, T: Rising + Drop>(
     alloc: Global,
+    tables: &StoredTables,
     from: &mut Connection<S>,
     blank: Connection<T>,
 ) -> Result<Connection<T>, Fault>
-    ensures same { IfOk result (λ made. (seen : _) × HasRowsOf (state S.Store from.old) (state S.Store seen) (state T.Store made)) }
+    ensures same { IfOk result (λ made. HasOnlyRows tables.now (state T.Store made)) }
     ensures unopened { IfErr result IsUnopened }
 {
-    if !from.is_autocommit() {
-        return Err(store_at(0));
-    }
-    let tables = match stored_tables(from, alloc) {
-        Ok(tables) => tables,
-        Err(error) => return Err(fault_of(error)),
-    };
     let mut made = match SqlStore::init(blank) {
         Ok(store) => store.into_connection(),
         Err((fault, _)) => return Err(fault),
     };
     match copy_rows(alloc, from, &mut made) {
-        Ok(()) => compared(alloc, &tables, made),
+        Ok(()) => compared(alloc, tables, made),
         Err(error) => Err(fault_of(error)),
     }
 }
@@ -137,9 +129,10 @@ fn made_in<S: Rising, T: Rising + Drop>(
 /// The same in memory. Its pages have sums.
 fn made_anew<S: Rising>(
     alloc: Global,
+    tables: StoredTables,
     from: &mut Connection<S>,
 ) -> Result<Connection<FileStore<Memory>>, Fault>
-    ensures same { IfOk result (λ made. (seen : _) × HasRowsOf (state S.Store from.old) (state S.Store seen) (file_state made)) }
+    ensures same { IfOk result (λ made. HasOnlyRows tables (file_state made)) }
     ensures unopened { IfErr result IsUnopened }
 {
     let files = Files {
@@ -147,7 +140,7 @@ fn made_anew<S: Rising>(
         db: Memory::new(alloc),
     };
     match Connection::open_files_with(alloc, files, Options::new(1), true) {
-        Ok(blank) => made_in(alloc, from, blank),
+        Ok(blank) => made_in(alloc, &tables, from, blank),
         Err((error, _)) => Err(fault_of(error)),
     }
 }
@@ -157,15 +150,21 @@ fn made_anew<S: Rising>(
 /// before; where they differ, as where the library has a row that can't be read, the fault is Store at 0.
 pub fn compact<D: Disk + Drop>(
     rt: &HostRuntime,
-    conn: Connection<FileStore<D>>,
+    library: SqlStore<FileStore<D>>,
     file: &str,
     copy: &str,
 ) -> Result<(), Fault>
     ensures lost { IfErr result (λ fault. IsUnopened fault ⊎ (fault.kind ≡ Write)) }
-    ensures made { MatchResult result (λ _. IsMadeAnew conn) (λ fault. fault.kind ≡ Write → IsMadeAnew conn) }
+    ensures made { MatchResult result (λ _. IsMadeAnew library.conn)
+        (λ fault. fault.kind ≡ Write → IsMadeAnew library.conn) }
 {
-    let mut conn = conn;
-    match made_anew(rt.alloc(), &mut conn) {
+    let mut library = library;
+    let tables = match stored_tables(rt.alloc(), &mut library) {
+        Ok(tables) => tables,
+        Err(fault) => return Err(fault),
+    };
+    let mut conn = library.into_connection();
+    match made_anew(rt.alloc(), tables, &mut conn) {
         Ok(made) => {
             let written = backup(rt, made, file, copy);
             drop(conn);

@@ -6,16 +6,18 @@ ghost use Rattle.sqlite.specs.Held.{state};
 ghost use Rattle.sqlite_std_file.specs.File.{IsFresh};
 ghost use Rattle.sqlite_wal.specs.Files.{image_at};
 ghost use Rattle.upd_records.specs.Rows.{Rows};
-ghost use Rattle.upd_keep.specs.Examining.{AreAllRows, Examines, ExaminesFile, FailsToOpen, HasLog, IsFoundIn, ReportsOn, SaysOpening};
+ghost use Rattle.upd_keep.specs.Examining.{Examines, ExaminesFile, FailsToOpen, HasLog, IsFoundIn, ReportsOn, SaysOpening};
 ghost use Rattle.upd_keep.specs.Examining.{is_held_deck, reply_bytes, sound_line};
+ghost use Rattle.upd_keep.specs.Replaying.{AreStoredTables};
 ghost use Rattle.upd_keep.specs.Situations.{situation_of};
 ghost use Rattle.upd_store.specs.Faults.{kind_for};
 ghost use Rattle.upd_text.specs.declared.fault.FaultKind.TheVariants.{NoMemory, Store};
 
-use crate::all_rows::{AllRows, all_rows};
+use crate::all_rows::all_rows;
 use crate::looking_at::situation_at;
 use crate::page_sums::wrong_pages_at;
 use crate::situation::{Situation, of_version};
+use crate::stored_tables::StoredTables;
 use itoa::Buffer;
 use sqlite::{Connection, Error, ErrorCode, FileFrom, Start};
 use sqlite_disk::Disk;
@@ -72,8 +74,8 @@ pub fn examine_tables<S: Rising>(
 }
 
 /// What is found in rows.
-fn judged(alloc: Global, all: &AllRows, size: u64) -> Result<Examined, AllocError>
-    ensures { IfOk result (λ found. (it : Rows) → AreAllRows it all.now → IsFoundIn it found) }
+fn judged(alloc: Global, all: &StoredTables, size: u64) -> Result<Examined, AllocError>
+    ensures { IfOk result (λ found. (it : Rows) → AreStoredTables it all.now → IsFoundIn it found) }
 {
     let text = findings(
         alloc,

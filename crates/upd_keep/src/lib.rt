@@ -1,7 +1,5 @@
 //! What whoever keeps a library asks of its file: a whole copy, one made anew, whether it is sound, and whether its stored
-//! runs make it again.
-//!
-//! Lists are read in a transaction that is rolled back. Nothing changes.
+//! runs make it again. What is read stays as it is.
 #![tactic(auto)]
 
 mod all_rows;
@@ -13,15 +11,14 @@ mod looking_at;
 mod other_tables;
 mod page_sums;
 mod replaying;
-mod run_history;
-mod run_reads;
 mod situation;
 mod stored_replies;
+mod stored_tables;
 mod versions;
 
 pub use compacting::compact;
 pub use copying::{backup, whole_copy};
 pub use crash_law::crash_after_arrival;
 pub use file_examination::{Examined, Report, examine, examine_tables};
-pub use replaying::{Replayed, replay_tables};
+pub use replaying::{Replayed, replay_store};
 pub use situation::Situation;

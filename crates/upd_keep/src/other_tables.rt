@@ -1,28 +1,36 @@
-//! Whether a store has the rows of other tables, and whether two lists of tables have the same.
-ghost use Rattle.std.specs.Prelude.{◌≡◌, None, IfErr, IfOk, IsTrue};
-ghost use Rattle.upd_records.specs.Rows.{Rows};
+//! Which table has other rows than that of another library, and whether two lists of tables have the same.
+ghost use Rattle.std.specs.Prelude.{◌≡◌, IfErr, IfOk, IsTrue};
+ghost use Rattle.std.specs.Option.{option_map};
+ghost use Rattle.upd_records.specs.Rows.{IsSame, Rows};
 ghost use Rattle.upd_row_store.specs.Assembling.{AreRowsOf};
-ghost use Rattle.upd_row_store.specs.Keeping.{IsLost, IsShown};
+ghost use Rattle.upd_row_store.specs.Keeping.{IsLost};
 ghost use Rattle.upd_row_store.specs.Tables.{AreRead};
-ghost use Rattle.upd_keep.specs.Replaying.{AreStoredTables};
+ghost use Rattle.upd_keep.specs.Replaying.{AreStoredTables, DiffersFirst, IsFirstOther};
 
-use crate::run_history::StoredTables;
+use crate::stored_tables::StoredTables;
 use std::alloc::{AllocError, Global};
 use upd_core::States;
 use upd_examine::same_rows::{
     are_same, are_same_cards, are_same_entries, are_same_idents, are_same_targets,
 };
+use upd_memory::ListStore;
 use upd_records::{LibraryRows, MarkRow, RunRow};
 use upd_row_store::RowStore;
 use upd_text::Fault;
 
-/// The name of the first table that has other rows, of those that make a library.
-fn other_library_table(
+/// The name of the first table that has other rows, in the order idents, cards, entries, targets, states, counts.
+fn first_other(
     alloc: Global,
     some: &LibraryRows,
+    states: &States,
     others: &LibraryRows,
+    other_states: &States,
 ) -> Result<Option<&'static str>, AllocError>
-    ensures { IfOk result (λ found. found ≡ None → (rows : Rows) → AreRowsOf rows others.now → AreRowsOf rows some.now) }
+    ensures { IfOk result (λ found. IsFirstOther (IsSame some.now.idents.items others.now.idents.items)
+        (IsSame some.now.cards.items others.now.cards.items) (IsSame some.now.entries.items others.now.entries.items)
+        (IsSame some.now.targets.items others.now.targets.items)
+        (IsSame states.now.states.items other_states.now.states.items)
+        (IsSame states.now.counts.items other_states.now.counts.items) (option_map (λ table. table.now) found)) }
 {
     if !are_same_idents(alloc, &some.idents, &others.idents)? {
         return Ok(Some("idents"));
@@ -36,45 +44,34 @@ fn other_library_table(
     if !are_same_targets(alloc, &some.targets, &others.targets)? {
         return Ok(Some("targets"));
     }
-    Ok(None)
-}
-
-/// The name of the first table that has other rows, of those of statuses and counts.
-fn other_state_table(
-    alloc: Global,
-    some: &States,
-    others: &States,
-) -> Result<Option<&'static str>, AllocError>
-    ensures { IfOk result (λ found. found ≡ None → (rows : Rows) → AreRead rows others.now → AreRead rows some.now) }
-{
-    let own = Vec::from_slice(alloc, &some.states)?;
-    if !are_same(own, Vec::from_slice(alloc, &others.states)?) {
+    let own = Vec::from_slice(alloc, &states.states)?;
+    if !are_same(own, Vec::from_slice(alloc, &other_states.states)?) {
         return Ok(Some("states"));
     }
-    let own = Vec::from_slice(alloc, &some.counts)?;
-    if !are_same(own, Vec::from_slice(alloc, &others.counts)?) {
+    let own = Vec::from_slice(alloc, &states.counts)?;
+    if !are_same(own, Vec::from_slice(alloc, &other_states.counts)?) {
         return Ok(Some("counts"));
     }
     Ok(None)
 }
 
-/// The name of the first table in which the store has other rows, in the order idents, cards, entries, targets, states,
-/// counts. The fault is NoMemory or Store, at 0.
-pub(crate) fn other_table<S: RowStore>(
-    store: &mut S,
+/// The name of the first table in which a library that was made has other rows. The fault is NoMemory or Store, at 0.
+pub(crate) fn other_table(
     alloc: Global,
-    tables: &StoredTables,
+    library: LibraryRows,
+    states: States,
+    made: ListStore,
 ) -> Result<Option<&'static str>, Fault>
-    ensures same { S.is_honest store.new → IfOk result (λ found. found ≡ None → (rows : Rows)
-        → IsShown S.Meaning rows store.old → AreRowsOf rows tables.now.library × AreRead rows tables.now.states) }
+    ensures first { IfOk result (λ found. (rows : Rows) → AreRowsOf rows library → AreRead rows states
+        → DiffersFirst rows made.tables (option_map (λ table. table.now) found)) }
     ensures lost { IfErr result IsLost }
 {
-    let rows = store.library_rows(alloc)?;
-    let states = store.load_states(alloc)?;
-    match other_library_table(alloc, &tables.library, &rows)? {
-        Some(table) => Ok(Some(table)),
-        None => Ok(other_state_table(alloc, &tables.states, &states)?),
-    }
+    let mut made = made;
+    let rows = made.library_rows(alloc)?;
+    let own_states = made.load_states(alloc)?;
+    drop(made);
+    let found = first_other(alloc, &library, &states, &rows, &own_states)?;
+    Ok(found)
 }
 
 /// A record that is compared whole.
@@ -131,8 +128,12 @@ pub(crate) fn are_same_tables(
     if !are_alike(&some.kept.marks, &others.kept.marks) {
         return Ok(false);
     }
-    match other_library_table(alloc, &some.library, &others.library)? {
-        Some(_) => Ok(false),
-        None => Ok(other_state_table(alloc, &some.states, &others.states)?.is_none()),
-    }
+    let found = first_other(
+        alloc,
+        &some.library,
+        &some.states,
+        &others.library,
+        &others.states,
+    )?;
+    Ok(found.is_none())
 }

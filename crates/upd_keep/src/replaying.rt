@@ -1,21 +1,18 @@
 //! The stored runs of a library, handed in again at an empty library: whether they make the same library.
 ghost use Rattle.std.specs.Prelude.{◌≡◌, IfErr, IfOk};
-ghost use Rattle.sqlite.specs.Held.{state};
 ghost use Rattle.upd_records.specs.Rows.{Rows};
 ghost use Rattle.upd_row_store.specs.Keeping.{IsLost};
 ghost use Rattle.upd_keep.specs.Replaying.{AreStoredTables, IsSaidOf, Replays, replayed_line, run_line, settled_line, table_line};
 
 use crate::other_tables::other_table;
-use crate::run_history::{StoredTables, stored_tables};
 use crate::stored_replies::first_parting;
+use crate::stored_tables::{StoredTables, stored_tables};
 use itoa::Buffer;
-use sqlite::Connection;
 use std::alloc::{AllocError, Global};
 use upd_desk::Desk;
 use upd_memory::ListStore;
 use upd_records::RunRow;
-use upd_sqlite::Rising;
-use upd_store::{fault_of, store_at};
+use upd_row_store::RowStore;
 use upd_text::Fault;
 
 /// What the stored runs of a library make of an empty one.
@@ -27,40 +24,43 @@ pub enum Replayed {
     Other(Vec<u8>),
 }
 
-/// Hands in the stored runs of the library in a connection at an empty library in memory, in the order in which they
-/// were stored, and compares replies and tables. Nothing changes.
-///
-/// The fault is NoMemory or Store, at 0; it is Store inside a transaction, and where the connection has no tables of a
-/// library.
-pub fn replay_tables<S: Rising>(alloc: Global, conn: &mut Connection<S>) -> Result<Replayed, Fault>
-    ensures replays { Replays result (state S.Store conn.old) (state S.Store conn.new) }
-    ensures mode { conn.new.in_transaction ≡ conn.old.in_transaction }
+/// Hands in the stored runs of a library at an empty library in memory, in the order in which they were stored, and compares
+/// replies and tables. The store is only read, and let go before the first run. The fault is NoMemory or Store, at 0.
+pub fn replay_store<S: RowStore + Drop>(alloc: Global, store: S) -> Result<Replayed, Fault>
+    ensures { (last : S) × Replays S.Meaning result store last }
 {
-    if !conn.is_autocommit() {
-        return Err(store_at(0));
-    }
-    match stored_tables(conn, alloc) {
-        Ok(tables) => replay_rows(alloc, &tables),
-        Err(error) => Err(fault_of(error)),
+    let mut store = store;
+    match stored_tables(alloc, &mut store) {
+        Ok(tables) => {
+            drop(store);
+            replay_tables(alloc, tables)
+        }
+        Err(fault) => Err(fault),
     }
 }
 
-/// What the runs of tables make of an empty library.
-fn replay_rows(alloc: Global, tables: &StoredTables) -> Result<Replayed, Fault>
-    ensures said { IfOk result (λ said. (it : Rows) → AreStoredTables it tables.now → IsSaidOf it said) }
+/// What the runs of tables make of an empty library. What is done with is let go: each run before the next one, and the
+/// library that they make before its rows are compared.
+fn replay_tables(alloc: Global, tables: StoredTables) -> Result<Replayed, Fault>
+    ensures said { IfOk result (λ said. (it : Rows) → AreStoredTables it tables → IsSaidOf it said) }
     ensures lost { IfErr result IsLost }
 {
-    if !tables.kept.marks.is_empty() {
+    let StoredTables {
+        library,
+        states,
+        kept,
+    } = tables;
+    if !kept.marks.is_empty() {
         return Ok(Replayed::Other(settled_line(alloc)?));
     }
+    let count = kept.runs.len();
     let mut desk = Desk::open(ListStore::new(alloc));
-    if let Some(run) = first_parting(&mut desk, alloc, &tables.kept.runs)? {
-        return Ok(Replayed::Other(run_line(alloc, run)?));
+    if let Some(run) = first_parting(&mut desk, alloc, kept.runs)? {
+        return Ok(Replayed::Other(run_line(alloc, &run)?));
     }
-    let mut store = desk.close();
-    match other_table(&mut store, alloc, tables)? {
+    match other_table(alloc, library, states, desk.close())? {
         Some(table) => Ok(Replayed::Other(table_line(alloc, table)?)),
-        None => Ok(Replayed::Same(replayed_line(alloc, tables.kept.runs.len())?)),
+        None => Ok(Replayed::Same(replayed_line(alloc, count)?)),
     }
 }
 

@@ -1,6 +1,5 @@
 //! Stored runs that are handed in again at a desk, and their replies.
 ghost use Rattle.std.specs.Prelude.{◌≡◌, ◌↔◌, ◌∷◌, None, IfErr, IfOk, IsTrue};
-ghost use Rattle.std.specs.Option.{option_map};
 ghost use Rattle.upd_desk.specs.Holding.{EachHeld, IsHeld};
 ghost use Rattle.upd_desk.specs.Journal.{Came};
 ghost use Rattle.upd_row_store.specs.Keeping.{IsLater, IsLost};
@@ -59,21 +58,21 @@ fn is_answered_as_stored<S: RowStore>(
     }
 }
 
-/// Hands stored runs in, one after the other, and returns the first that gets another reply than the stored one. The
-/// fault is NoMemory or Store, at 0.
-pub(crate) fn first_parting<'a, S: RowStore>(
+/// Hands stored runs in, one after the other, and returns the first that gets another reply than the stored one. Each run is
+/// let go before the next. The fault is NoMemory or Store, at 0.
+pub(crate) fn first_parting<S: RowStore>(
     desk: &mut Desk<S>,
     alloc: Global,
-    runs: &'a [RunRow],
-) -> Result<Option<&'a RunRow>, Fault>
+    runs: Vec<RunRow>,
+) -> Result<Option<RunRow>, Fault>
     ensures right { EachHeld S.Meaning desk.old.store desk.new.store (λ journal. IfOk result
-        (λ found. IsFirstParting journal runs.now (option_map (λ run. run.now) found))) }
+        (λ found. IsFirstParting journal runs.items found)) }
     ensures held { EachHeld S.Meaning desk.old.store desk.new.store (λ journal. IfOk result
-        (λ found. found ≡ None → IsHeld S.Meaning (journal_with journal runs.now) desk.new.store)) }
+        (λ found. found ≡ None → IsHeld S.Meaning (journal_with journal runs.items) desk.new.store)) }
     ensures lost { IfErr result IsLost }
 {
     for run in runs {
-        if !is_answered_as_stored(desk, alloc, run)? {
+        if !is_answered_as_stored(desk, alloc, &run)? {
             return Ok(Some(run));
         }
     }

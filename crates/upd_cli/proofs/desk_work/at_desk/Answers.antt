@@ -1,16 +1,8 @@
-use Rattle.std.proofs.Common.{Result, Ok, Err, inl, inr, refl, sym, subst}
-use Rattle.std.specs.Prelude.{IfErr, IfOk}
+use Rattle.std.proofs.Common.{inl, inr, refl, sym, subst}
 use Rattle.upd_memory.specs.Mirrored.{AgreesIfAny}
 use Rattle.upd_store.specs.OneOpen.{IsBelow, IsServed}
-use Rattle.upd_cli.proofs.LeavingLemmas.{untouched_frames, unopened_fails}
+use Rattle.upd_cli.proofs.LeavingLemmas.{either, untouched_frames, unopened_fails}
 use Rattle.upd_cli.proofs.desk_work.at_desk.Goals as goal
-
--- what is known of a library that was opened either way
-either : {T E : Type 0} (l : Result T E) {A B C D : T → Type 0} {P Q R : E → Type 0} {G : Type 0}
-    → IfOk l A → IfOk l B → IfOk l C → IfOk l D → IfErr l P → IfErr l Q → IfErr l R
-    → ((s : T) → A s → B s → C s → D s → G) → ((s : E) → P s → Q s → R s → G) → G
-either (Ok s) a b c d p q r ok err = ok s a b c d
-either (Err s) a b c d p q r ok err = err s p q r
 
 pub returns-in-Ok : goal.returns-in-Ok
 returns-in-Ok g c =

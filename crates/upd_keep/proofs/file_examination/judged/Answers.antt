@@ -1,4 +1,4 @@
-use Rattle.upd_keep.proofs.Common.{◌≡◌, ◌<◌, length, refl, ◌∙◌, subst, arith, rules, nat_tests, count_by, reply_bytes}
+use Rattle.upd_keep.proofs.Common.{◌≡◌, ◌<◌, length, refl, ap, ◌∙◌, subst, arith, rules, nat_tests, count_by, reply_bytes}
 use Rattle.std.specs.Prelude.{◌↔◌}
 use Rattle.upd_examine.specs.Findings.{AreSoundRows}
 use Rattle.upd_keep.specs.Examining.{is_held_deck}
@@ -25,7 +25,7 @@ returns c = λ it h.
     let none : length text ≡ 0 = grind (arith, nat_tests, c.in_ok-text.text.ok, c.is_empty.ensures, c.if-not-is_empty.false) in
     let held = h.library.idents.passes is_held_deck in
     let all_cards = same_length h.library.cards in
-    let all_runs = same_length h.kept.runs.same in
+    let all_runs = ap length h.kept.runs in
     let decks : c.held_decks.result ≡ count_by is_held_deck it.idents = search (rules, held) in
     let cards : c.len.result ≡ length it.cards = search (rules, all_cards) in
     let runs : c.len-2.result ≡ length it.runs = search (rules, all_runs) in
