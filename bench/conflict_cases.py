@@ -89,7 +89,7 @@ def fixed_cases(upd, folder, show):
             good = not heard.has_word() and heard.text == "*DECK A\n" + "".join(f"{line}\n" for line in case.merged.split())
         good = good and not heard.wrong
         bad += not good
-        said = [heard.refusal.strip()] if heard.refusal else heard.words + heard.half
+        said = [heard.refusal.strip()] if heard.refusal else heard.purges + heard.words + heard.half
         print(f"{case.name:4} {'right' if good else 'WRONG'}  {case.says}: {'; '.join(heard.wrong + said) or 'no word'}")
         if show and not good:
             print(f"{heard.run}gives\n{heard.text}")

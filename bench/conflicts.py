@@ -167,7 +167,7 @@ def shown(name, heard, texts):
     """Shows a case that isn't as wanted."""
     for title, text in zip(("BASE", "THEIRS", "MINE", "RUN", "TEXT"), (*texts, heard.run, heard.text)):
         print(f"--- {name}: {title}\n{text}", end="" if text else "\n")
-    print(f"--- {name}: heard {heard.refusal.strip()} {heard.words} {heard.half}")
+    print(f"--- {name}: heard {heard.refusal.strip()} {heard.purges} {heard.words} {heard.half}")
 
 
 class Count:

@@ -8,6 +8,7 @@ from pathlib import Path
 from edits import Library
 
 OFF = "is off already, by"
+PURGED = " was purged after "
 
 
 class Shared(Library):
@@ -52,10 +53,10 @@ class Heard:
     """What LYON hears of its edit, and what comes of it."""
 
     def __init__(self):
-        self.run, self.refusal, self.words, self.half, self.text, self.wrong = "", "", [], [], None, []
+        self.run, self.refusal, self.words, self.purges, self.half, self.text, self.wrong = "", "", [], [], [], None, []
 
     def has_word(self):
-        return bool(self.refusal or self.words)
+        return bool(self.refusal or self.words or self.purges)
 
 
 def tried(library, since, run, heard):
@@ -63,7 +64,8 @@ def tried(library, since, run, heard):
     plain, at = library.ended("try", "quick", reads=run), library.ended("try-at", "quick", since, reads=run)
     if at.returncode:
         heard.refusal = at.stdout or at.stderr
-    heard.words = [line for line in at.stderr.splitlines() if line not in plain.stderr.splitlines()]
+    heard.purges = [line for line in at.stderr.splitlines() if PURGED in line]  # no conflicts: run-at doesn't say them
+    heard.words = [line for line in at.stderr.splitlines() if line not in plain.stderr.splitlines() + heard.purges]
     heard.half = [line for line in at.stderr.splitlines() if OFF in line]
 
 

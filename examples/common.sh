@@ -206,7 +206,7 @@ look() {
             cat "$work/faults" >&2
             return 2
         fi
-        sed -e '/ dropped comments: /d' -e "s/^upd: \([0-9]*\):/run $part, line \1:/" "$work/faults" >>"$work/warnings" || exit 3
+        sed -e '/ dropped comments: /d' -e '/ was purged after /d' -e "s/^upd: \([0-9]*\):/run $part, line \1:/" "$work/faults" >>"$work/warnings" || exit 3
         part=$((part + 1))
     done
     # A known serial shows that the ident is still the one that was seen.

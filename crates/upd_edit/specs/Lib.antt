@@ -8,6 +8,7 @@ pub mod Found
 pub mod Conflicts
 pub mod YankWarnings
 pub mod Warnings
+pub mod PurgesSince
 pub mod StayingDecks
 pub mod EditCauses
 pub mod Conditions

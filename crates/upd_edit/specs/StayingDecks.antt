@@ -1,7 +1,7 @@
 -- Decks that stay where a set goes: whether both came by one run, as the stored runs say.
-use Rattle.std.specs.Prelude.{Bool, true, false, List, Option, Some, None, Result, Ok, option_map}
+use Rattle.std.specs.Prelude.{Bool, true, false, List, ◌++◌, Option, Some, None, Result, Ok, option_map}
 use Rattle.std.specs.List.{flat_map}
-use Rattle.std.specs.Option.{option_or}
+use Rattle.std.specs.Option.{option_and_then, option_or}
 use Rattle.upd_text.specs.declared.fault.Fault.{Fault}
 use Rattle.upd_text.specs.Outcome.{◌>>=◌}
 use Rattle.upd_text.specs.Units.{Bytes}
@@ -13,6 +13,7 @@ use Rattle.upd_edit.specs.declared.warning.Warning.{Warning}
 use Rattle.upd_edit.specs.declared.warning.WarningKind.{WarningKind}
 use Rattle.upd_edit.specs.declared.warning.WarningKind.TheVariants.{DeckStays}
 use Rattle.upd_edit.specs.Found.{found}
+use Rattle.upd_edit.specs.PurgesSince.{purged_kind}
 use Rattle.upd_edit.specs.Warnings.{warning_list}
 use Rattle.upd_views.specs.IntroducingRun.{introducer, introduces}
 
@@ -39,6 +40,10 @@ kind_by_runs runs idents kind = Some kind
 abbrev pub warnings_by_runs : List RunView → List Ident → List Warning → List Warning
 warnings_by_runs runs idents list = flat_map (λ w. found w.line (kind_by_runs runs idents w.kind)) list
 
+-- all warnings of a run that is tried, as the stored runs have them: first that of a purge after SINCE
+abbrev pub all_by_runs : Option Bytes → List RunView → LibraryView → List Warning → List Warning
+all_by_runs since runs l list = found 1 (option_and_then (λ name. purged_kind name runs l) since) ++ warnings_by_runs runs l.idents list
+
 -- whether the stored runs can make a difference to a warning
 abbrev pub asks_runs : WarningKind → Bool
 asks_runs (DeckStays word set deck known) = true
@@ -46,4 +51,4 @@ asks_runs _ = false
 
 -- the warnings of a run that is tried, as the stored runs have them
 abbrev pub tried_warnings : Option Bytes → Bytes → List RunView → LibraryView → Result (List Warning) Fault
-tried_warnings since run runs l = warning_list since run l >>= (λ list. Ok (warnings_by_runs runs l.idents list))
+tried_warnings since run runs l = warning_list since run l >>= (λ list. Ok (all_by_runs since runs l list))

@@ -1,25 +1,31 @@
 //! Decks that stay where a set goes: whether both came by one run, as the stored runs say.
 ghost use Rattle.std.specs.Prelude.{◌≡◌, ◌++◌, IfOk, OnOk};
 ghost use Rattle.std.specs.List.{list_any};
-ghost use Rattle.upd_edit.specs.StayingDecks.{asks_runs, came_together, came_with, kind_by_runs, kind_of_deck, warnings_by_runs};
+ghost use Rattle.upd_edit.specs.StayingDecks.{all_by_runs, asks_runs, came_together, came_with, kind_by_runs, kind_of_deck, warnings_by_runs};
 
+use crate::purges_since::purged_kind;
 use crate::warning::{TakingWord, Warning, WarningKind, push};
 use std::alloc::{AllocError, Global};
-use upd_core::{Ident, Name};
+use upd_core::{Ident, Library, Name};
 use upd_records::RunRow;
 use upd_views::{introducer, introduces};
 
-/// Warnings as the stored runs have them: of a deck that didn't come with the set that goes there is none.
-pub fn warnings_by_runs(
+/// All warnings of a run that is tried, as the stored runs have them: first that of a purge after SINCE. Of a deck that
+/// didn't come with the set that goes there is none.
+pub fn all_by_runs(
     alloc: Global,
+    library: &Library,
     runs: &[RunRow],
-    idents: &[Ident],
+    since: &Option<Name>,
     list: &[Warning],
 ) -> Result<Vec<Warning>, AllocError>
-    ensures { IfOk result (λ told. told.items ≡ warnings_by_runs runs.now idents.now list.now) }
+    ensures { IfOk result (λ told. told.items ≡ all_by_runs since.now runs.now library.now list.now) }
 {
     let mut told = Vec::new(alloc);
-    push_by_runs(&mut told, runs, idents, list)?;
+    if let Some(name) = since {
+        push(&mut told, 1, purged_kind(alloc, library, runs, name)?)?;
+    }
+    push_by_runs(&mut told, runs, library.idents(), list)?;
     Ok(told)
 }
 

@@ -31,6 +31,11 @@ pub enum WarningKind {
     Wide(usize),
     /// The line meets an ident that is younger than SINCE.
     Conflict(Conflict),
+    /// A run after the one that introduced SINCE purged this name, which an ident has that came no later.
+    Purged {
+        name: Name,
+        since: Name,
+    },
     /// A card that goes was switched by a younger ident that stays.
     TakesSwitched {
         word: TakingWord,

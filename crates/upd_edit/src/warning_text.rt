@@ -66,6 +66,7 @@ fn kind_words(alloc: Global, kind: &WarningKind) -> Result<String, AllocError> {
         ),
         WarningKind::OffAlready { card, by } => format!(in alloc; "{card} is off already, by {by}"),
         WarningKind::Wide(count) => format!(in alloc; "the range has {count} cards"),
+        WarningKind::Purged { name, since } => format!(in alloc; "{name} was purged after {since}"),
         WarningKind::TakesSwitched { word, card, by } => {
             let word = taking(*word);
             format!(in alloc; "{by} switched {card}, which this {word} takes")

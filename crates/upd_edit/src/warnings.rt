@@ -202,7 +202,7 @@ fn again_by(library: &Library, since: Name) -> Option<WarningKind>
 }
 
 /// Whether a purged ident has a name.
-fn came_again(library: &Library, name: &Name) -> bool
+pub(crate) fn came_again(library: &Library, name: &Name) -> bool
     ensures { result ≡ came_again name.now library.now }
 {
     library

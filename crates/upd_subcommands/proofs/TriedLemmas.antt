@@ -10,7 +10,7 @@ use Rattle.upd_row_store.specs.Keeping.{FindsRows, IsLost, IsShown}
 use Rattle.upd_desk.specs.Holding.{HoldsIn, IsHeld, IsOwed}
 use Rattle.upd_desk.specs.Journal.{Journal}
 use Rattle.upd_desk.specs.Outcomes.{ReplyView, reply_on}
-use Rattle.upd_edit.specs.StayingDecks.{tried_warnings, warnings_by_runs}
+use Rattle.upd_edit.specs.StayingDecks.{all_by_runs, tried_warnings}
 use Rattle.upd_edit.specs.Trying.{tried}
 use Rattle.upd_edit.specs.Warnings.{warning_list}
 use Rattle.upd_edit.specs.declared.warning.Warning.{Warning}
@@ -34,7 +34,7 @@ module _ {S : Type 0} (meaning : Ghosts S) where
   pub none_tried : (since : Option (List ℕ)) (run : List ℕ) (runs : List RunView) (l : LibraryView) (fault : Fault)
       → IsOwed (warning_list since run l) (Err fault) → IsOwed (tried_warnings since run runs l) (Err fault)
   none_tried since run runs l fault (inl lost) = inl lost
-  none_tried since run runs l fault (inr failed) = inr (ap (λ r. r >>= (λ list. Ok (warnings_by_runs runs l.idents list))) failed)
+  none_tried since run runs l fault (inr failed) = inr (ap (λ r. r >>= (λ list. Ok (all_by_runs since runs l list))) failed)
 
   -- what is right of the tables that the store showed is right of the runs in them
   owed_of_rows : {V : Type 0} (items : V → List Warning) (owed : List RunView → List Warning) (result : Result V Fault) (old new : S)
@@ -47,13 +47,13 @@ module _ {S : Type 0} (meaning : Ghosts S) where
   pub tried_by_runs : {V : Type 0} (items : V → List Warning) (since : Option (List ℕ)) (run : List ℕ) (l : LibraryView) (list : List Warning)
       (result : Result V Fault) (old mid new : S) → Tells meaning (λ l. Ok l) (Ok l) old mid → Keeps meaning old mid
       → (is_honest mid → is_open mid) → Keeps meaning mid new → warning_list since run l ≡ Ok list
-      → FindsRows meaning result mid new (λ rows v. items v ≡ warnings_by_runs rows.runs l.idents list) → IfErr result IsLost
+      → FindsRows meaning result mid new (λ rows v. items v ≡ all_by_runs since rows.runs l list) → IfErr result IsLost
       → TellsOfRuns meaning (tried_warnings since run) (result_map_both items (λ fault. fault) result) old new
   tried_by_runs items since run l list result old mid new tells first opens second is finds lost =
       told_of_shown (tried_warnings since run) l (result_map_both items (λ fault. fault) result) old mid new tells first opens second
-      (λ honest rows shown. subst (λ (r : Result (List Warning) Fault). IsOwed (r >>= (λ list. Ok (warnings_by_runs rows.runs l.idents list)))
+      (λ honest rows shown. subst (λ (r : Result (List Warning) Fault). IsOwed (r >>= (λ list. Ok (all_by_runs since rows.runs l list)))
       (result_map_both items (λ fault. fault) result)) (sym is)
-      (owed_of_rows items (λ runs. warnings_by_runs runs l.idents list) result mid new finds lost honest rows shown))
+      (owed_of_rows items (λ runs. all_by_runs since runs l list) result mid new finds lost honest rows shown))
 
   pub tried_as : (mode : List ℕ) (since : Option (List ℕ)) (run : List ℕ) (answer : Result ReplyView Fault) (warnings : Result (List Warning) Fault)
       (old mid new : S)

@@ -2,7 +2,7 @@
 ghost use Rattle.std.specs.Prelude.{◌≡◌, ◌≢◌, ◌⊎◌, ◌+◌, ◌∷◌, ◌++◌, [], Err, IfErr, IfOk, Ok};
 ghost use Rattle.std.specs.Result.{result_map_both};
 ghost use Rattle.upd_subcommands.specs.Command.{IsReported, ending};
-ghost use Rattle.upd_edit.specs.StayingDecks.{tried_warnings, warnings_by_runs};
+ghost use Rattle.upd_edit.specs.StayingDecks.{all_by_runs, tried_warnings};
 ghost use Rattle.upd_row_store.specs.Keeping.{FindsRows, IsLost, Keeps};
 ghost use Rattle.upd_subcommands.specs.DeskCommands.{HandsIn, HandsInSince, SettlesSite, TellsOfRuns, TellsSince, TriesRun};
 ghost use Rattle.upd_subcommands.specs.Status.{exit_status};
@@ -18,7 +18,7 @@ use std::io::{Read, Write};
 use upd_core::Library;
 use upd_desk::{Desk, Reply, fault_answer, settled_parts};
 use upd_edit::{
-    Warning, arrive_since, ask_runs, try_at, warning_list, warnings_by_runs, write_warnings,
+    Warning, all_by_runs, arrive_since, ask_runs, try_at, warning_list, write_warnings,
 };
 use upd_row_store::RowStore;
 use upd_text::{Fault, FaultKind, Name};
@@ -146,7 +146,7 @@ fn warnings_at<S: RowStore>(
 {
     let library = desk.library(alloc)?;
     match warning_list(alloc, &library, since, run) {
-        Ok(list) => by_stored_runs(alloc, desk, &library, list),
+        Ok(list) => by_stored_runs(alloc, desk, &library, &since, list),
         Err(fault) => Err(fault),
     }
 }
@@ -156,18 +156,19 @@ fn by_stored_runs<S: RowStore>(
     alloc: Global,
     desk: &mut Desk<S>,
     library: &Library,
+    since: &Option<Name>,
     list: Vec<Warning>,
 ) -> Result<Vec<Warning>, Fault>
     ensures list { FindsRows S.Meaning result desk.old.store desk.new.store
-        (λ rows told. told.items ≡ warnings_by_runs rows.runs library.now.idents list.items) }
+        (λ rows told. told.items ≡ all_by_runs since.now rows.runs library.now list.items) }
     ensures lost { IfErr result IsLost }
     ensures same { Keeps S.Meaning desk.old.store desk.new.store }
 {
-    if !ask_runs(&list) {
+    if since.is_none() && !ask_runs(&list) {
         return Ok(list);
     }
     let stored = desk.stored_runs(alloc)?;
-    match warnings_by_runs(alloc, &stored.runs, library.idents(), &list) {
+    match all_by_runs(alloc, library, &stored.runs, since, &list) {
         Ok(told) => Ok(told),
         Err(error) => Err(Fault::from(error)),
     }

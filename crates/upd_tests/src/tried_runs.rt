@@ -1,9 +1,13 @@
 //! Warnings of runs that are tried on a small library. Rule 10.68.
 
 use crate::examined_tables::{RunText, put_runs};
+use std::alloc::Global;
 use std::test::Fail;
+use upd_apply::apply;
 use upd_core::{Library, Name};
-use upd_edit::{Warning, warning_list, warnings_by_runs, write_warnings};
+use upd_deck::read_run;
+use upd_edit::{Warning, WarningKind, all_by_runs, warning_list, write_warnings};
+use upd_records::RunRow;
 use upd_testkit::applying::{after, name};
 use upd_testkit::check::same_text;
 
@@ -139,6 +143,30 @@ const S_ONLY: RunText = (4, 1, true, b"{\"idents\":[\"S\"]}");
 
 const NEWD_ONLY: RunText = (5, 1, true, b"{\"idents\":[\"NEWD\"]}");
 
+/// Deck A, of which X has replaced a line, and Z.
+const A_X_Z: &[&str] = &[
+    "*DECK A\nL1\nL2\nL3\nL4\nL5\nL6\nL7\nL8\n",
+    "*IDENT X\n*DELETE A.4\nX1\n",
+    "*IDENT Z\n",
+];
+
+/// Runs after these, how many of all are settled, SINCE, and the name that is reported as purged (rule 10.94.5).
+const PURGES: &[(&[&str], usize, &str, &str)] = &[
+    // X goes from the deck, or everywhere, or the deck goes.
+    (&["*SELPURGE A.X\n"], 0, "X", "X"),
+    (&["*PURGE X\n"], 2, "Z", "X"),
+    (&["*PURDECK A\n"], 0, "Z", "A"),
+    (&["*IDENT P\n", "*PURGE P,X\n*PURDECK A\n"], 0, "Z", "X"),
+    // The run of SINCE is settled; it came later; the purge was refused.
+    (&["*PURGE X\n"], 3, "Z", ""),
+    (&["*PURGE X\n", "*IDENT P\n"], 0, "P", ""),
+    (&["*DELETE Q.1\n*PURGE X\n"], 0, "Z", ""),
+    // What came later goes; SINCE came again.
+    (&["*IDENT P\n", "*PURGE P\n"], 0, "Z", ""),
+    (&["*IDENT P\n", "*PURGE P,*\n"], 0, "Z", ""),
+    (&["*PURGE X\n", "*IDENT X\n", "*PURGE Z\n"], 0, "X", ""),
+];
+
 /// The youngest ident that the author of a run on the same library has seen, the run, and what is reported of it.
 const LATER: &[(&str, &str, &str)] = &[
     (
@@ -199,10 +227,59 @@ fn have_warnings_by_runs(
     for (stored, run, wanted) in cases {
         put_runs(alloc, &mut runs, stored)?;
         let list = warning_list(alloc, library, None, run.as_bytes())?;
-        let told = warnings_by_runs(alloc, &runs, library.idents(), &list)?;
+        let told = all_by_runs(alloc, library, &runs, &None, &list)?;
         are_written_as(library, &told, run, wanted)?;
     }
     Ok(())
+}
+
+/// A run that changes L8 is tried.
+fn has_purge(
+    alloc: Global,
+    later: &[&str],
+    settled: usize,
+    since: &str,
+    purged: &str,
+) -> Result<(), Fail> {
+    const RUN: &str = "*IDENT M\n*DELETE A.9\nMINE\n";
+    let mut library = Library::new(alloc);
+    let mut runs = Vec::new(alloc);
+    for text in A_X_Z {
+        runs.push(sent(&mut library, text)?)?;
+    }
+    for text in later {
+        runs.push(sent(&mut library, text)?)?;
+    }
+    let stored = runs.get(settled..).ok_or("fewer runs")?;
+    let as_of = Some(name(since)?);
+    let list = warning_list(alloc, &library, as_of, RUN.as_bytes())?;
+    let mut told = all_by_runs(alloc, &library, stored, &as_of, &list)?;
+    told.retain(|warning| matches!(warning.kind, WarningKind::Purged { .. }));
+    let mut wanted = String::new(alloc);
+    if !purged.is_empty() {
+        wanted = format!(in alloc; "upd: 1: {purged} was purged after {since}\n")?;
+    }
+    are_written_as(&library, &told, RUN, &wanted)
+}
+
+/// Sends a run, which introduces at most one ident.
+fn sent(library: &mut Library, text: &str) -> Result<RunRow, Fail> {
+    let alloc = library.allocator();
+    let count = library.idents().len();
+    let run = read_run(alloc, text.as_bytes())?;
+    let accepted = apply(alloc, library, &run).is_ok();
+    let introduced = match library.idents().get(count) {
+        Some(ident) => ident.name,
+        None => Name::none(),
+    };
+    Ok(RunRow {
+        site: String::from_str(alloc, "PARIS")?,
+        number: 1,
+        mode: 1,
+        bytes: Vec::from_slice(alloc, text.as_bytes())?,
+        accepted,
+        reply: format!(in alloc; "{{\"idents\":[\"{introduced}\"]}}")?.into_bytes(),
+    })
 }
 
 fn have_warnings(library: &Library, runs: &[(&str, &str)]) -> Result<(), Fail> {
@@ -226,6 +303,14 @@ fn what_is_taken_below_others_is_reported(rt: HostRuntime) -> Result<(), Fail> {
 fn stored_runs_say_whether_a_deck_came_with_a_set(rt: HostRuntime) -> Result<(), Fail> {
     have_warnings_by_runs(&after(rt.alloc(), EDITED_BY_MANY)?, STAYING)?;
     have_warnings_by_runs(&after(rt.alloc(), CAME_AGAIN)?, STAYING_AGAIN)
+}
+
+#[test]
+fn what_was_purged_after_an_ident_is_reported(rt: HostRuntime) -> Result<(), Fail> {
+    for (later, settled, since, purged) in PURGES {
+        has_purge(rt.alloc(), later, *settled, since, purged)?;
+    }
+    Ok(())
 }
 
 #[test]
