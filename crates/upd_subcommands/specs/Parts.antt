@@ -1,7 +1,7 @@
 -- The spool of `correct-parts`: its frames, and how it is reported.
-use Rattle.std.specs.Prelude.{◌≡◌, ℕ, ◌+◌, ◌<◌, ◌≤◌, ◌⊎◌, true, false, List, [], ◌∷◌, length, Option, None, Some, Result, Ok, Err, IfErr, IfOk}
-use Rattle.std.specs.List.{AllByRecursion}
+use Rattle.std.specs.Prelude.{◌≡◌, ℕ, ◌+◌, ◌<◌, ◌≤◌, ◌⊎◌, true, false, List, [], ◌∷◌, length, Bool, Option, None, Some, Result, Ok, Err, IfErr, IfOk, IsOk}
 use Rattle.upd_text.specs.Faults.{fault_at}
+use Rattle.upd_text.specs.Outcome.{◌>>=◌}
 use Rattle.upd_text.specs.Units.{Bytes}
 use Rattle.upd_text.specs.declared.fault.Fault.{Fault}
 use Rattle.upd_text.specs.declared.fault.FaultKind.TheVariants.{RunLong}
@@ -32,12 +32,23 @@ frames_from site number mode (run ∷ runs) = arrival_view site number mode run 
 abbrev pub IsAdmitted : ArrivalView → Type 0
 IsAdmitted a = (mode : Mode) × (check_arrival a ≡ Ok mode)
 
--- A spool has the frames of runs that lead the decks of an edited text to it one after the other. Each passes the admission checks.
+-- the admission checks of arrivals one after the other: the first refusal decides
+abbrev pub check_all : List ArrivalView → Result Bool Fault
+check_all [] = Ok true
+check_all (a ∷ later) = do
+  _ ← check_arrival a
+  check_all later
+
+-- the admission checks of the frames of runs; site, number and mode are checked even where there is no run
+abbrev pub check_frames : Bytes → ℕ → Bytes → List Bytes → Result Bool Fault
+check_frames site number mode runs = check_all (arrival_view site number mode [] ∷ frames_from site number mode runs)
+
+-- A spool has the frames of runs that lead the decks of an edited text to it one after the other. They pass the admission checks.
 pub record IsSpoolTo (l : LibraryView) (set site : Bytes) (number : ℕ) (mode text spool : Bytes) : Type 0 where
   pub runs : List Bytes
   pub corrects : CorrectsInParts l set text runs
   pub frames : spool ≡ frames_text (frames_from site number mode runs)
-  pub admitted : AllByRecursion IsAdmitted (frames_from site number mode runs)
+  pub admitted : IsOk (check_frames site number mode runs)
 
 -- ---- numbers
 
@@ -77,23 +88,20 @@ abbrev pub IsUsedError : ℕ → EditError → Type 0
 IsUsedError number (Failed fault) = IsLost fault
 IsUsedError number (Refused refusals) = refusals.items ≡ refusal_at_0 (NumberUsed number) ∷ []
 
--- the frames of a spool fail by a loss, or by the admission checks of one of them
-abbrev pub IsSpoolFault : Bytes → ℕ → Bytes → Fault → Type 0
-IsSpoolFault site number mode fault = IsLost fault
-    ⊎ ((n : ℕ) × (run : Bytes) × (number ≤ n) × (check_arrival (arrival_view site n mode run) ≡ Err fault))
-
--- a failure is that of the frames, or the text is too long
-abbrev pub IsSpoolFailure : Bytes → ℕ → Bytes → Bytes → EditError → Type 0
-IsSpoolFailure site number mode text (Failed fault) =
-    IsSpoolFault site number mode fault ⊎ ((MAX_TEXT_BYTES < length text) × (fault ≡ fault_at RunLong 0))
-IsSpoolFailure site number mode text (Refused refusals) = Unit {0}
-
 module _ {S : Type 0} (meaning : Ghosts S) where
+  -- A failure is a loss, or the text is too long, or the frames of runs that lead its decks to it are refused by the admission checks.
+  abbrev pub IsSpoolFailure : Bytes → Bytes → ℕ → Bytes → Bytes → S → S → EditError → Type 0
+  IsSpoolFailure set site number mode text old new (Failed fault) = IsLost fault
+      ⊎ (((MAX_TEXT_BYTES < length text) × (fault ≡ fault_at RunLong 0))
+      ⊎ ((runs : List Bytes) × EachHeld meaning old new (λ journal. CorrectsInParts (library_after journal) set text runs)
+      × (check_frames site number mode runs ≡ Err fault)))
+  IsSpoolFailure set site number mode text old new (Refused refusals) = Unit {0}
+
   -- An edited text is answered by such a spool of free numbers, or by what is wrong with it or with them. Nothing is changed.
   pub record IsPartsAnswer (set site : Bytes) (number : ℕ) (mode text : Bytes) (answer : Result Bytes EditError) (old new : S) : Type 0 where
     pub spool : EachHeld meaning old new (λ journal. IfOk answer (IsFreeSpool journal set site number mode text))
     pub refused : EachHeld meaning old new (λ journal. IfErr answer (IsSpoolRefusal journal set site number mode text))
-    pub failed : IfErr answer (IsSpoolFailure site number mode text)
+    pub failed : IfErr answer (IsSpoolFailure set site number mode text old new)
     pub same : Keeps meaning old new
 
   -- an edited text was answered by a spool, and the answer was told

@@ -1,12 +1,11 @@
 //! `correct-parts`: from an edited text to a spool on the output.
-ghost use Rattle.std.specs.Prelude.{◌≡◌, ◌+◌, ◌<◌, ◌≤◌, ◌⊎◌, ◌++◌, ◌∷◌, [], Err, IfErr, IfOk, Ok, OnOk, length, map};
-ghost use Rattle.std.specs.List.{AllByRecursion};
+ghost use Rattle.std.specs.Prelude.{◌≡◌, ◌+◌, ◌<◌, ◌≤◌, ◌⊎◌, ◌++◌, ◌∷◌, [], Err, IfErr, IfOk, IsOk, Ok, OnOk, length, map};
 ghost use Rattle.upd_desk.specs.Arrivals.{arrival_view, check_arrival};
 ghost use Rattle.upd_desk.specs.Holding.{EachHeld};
 ghost use Rattle.upd_row_store.specs.Keeping.{IsLost, Keeps};
 ghost use Rattle.upd_subcommands.specs.Command.{ending};
-ghost use Rattle.upd_subcommands.specs.Parts.{CorrectsParts, IsAdmitted, IsFirstUsed, IsFreeSpool, IsSpoolFailure, IsSpoolFault, IsSpoolRefusal};
-ghost use Rattle.upd_subcommands.specs.Parts.{IsUsedError, frames_from};
+ghost use Rattle.upd_subcommands.specs.Parts.{CorrectsParts, IsAdmitted, IsFirstUsed, IsFreeSpool, IsSpoolFailure, IsSpoolRefusal, IsUsedError};
+ghost use Rattle.upd_subcommands.specs.Parts.{check_frames, frames_from};
 ghost use Rattle.upd_wire.specs.Frames.{frame_text, frames_text};
 
 use crate::correction_command::report_correction;
@@ -61,7 +60,7 @@ fn spool_at<S: RowStore>(
         (λ journal. IfOk result (λ spool. IsFreeSpool journal set.now site.now number mode.now text.now spool.items)) }
     ensures refused { EachHeld S.Meaning desk.old.store desk.new.store
         (λ journal. IfErr result (IsSpoolRefusal journal set.now site.now number mode.now text.now)) }
-    ensures failed { IfErr result (IsSpoolFailure site.now number mode.now text.now) }
+    ensures failed { IfErr result (IsSpoolFailure S.Meaning set.now site.now number mode.now text.now desk.old.store desk.new.store) }
     ensures same { Keeps S.Meaning desk.old.store desk.new.store }
 {
     match parts_at(alloc, desk, set.as_bytes(), text) {
@@ -129,10 +128,10 @@ fn spool_of(
 ) -> Result<Vec<u8>, Fault>
     ensures frames { IfOk result (λ spool. spool.items
         ≡ frames_text (frames_from site.now number mode.now (map (λ run. run.items) runs.now))) }
-    ensures admitted { OnOk result (AllByRecursion IsAdmitted
-        (frames_from site.now number mode.now (map (λ run. run.items) runs.now))) }
+    ensures admitted { OnOk result (IsOk (check_frames site.now number mode.now (map (λ run. run.items) runs.now))) }
     ensures fits { OnOk result (number + length runs.now ≤ 1000000000) }
-    ensures refused { IfErr result (IsSpoolFault site.now number mode.now) }
+    ensures refused { IfErr result (λ fault. IsLost fault
+        ⊎ (check_frames site.now number mode.now (map (λ run. run.items) runs.now) ≡ Err fault)) }
 {
     let mut spool = Vec::new(alloc);
     check_frame(site, number, mode, b"")?;

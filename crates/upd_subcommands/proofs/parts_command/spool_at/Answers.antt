@@ -2,7 +2,7 @@ use Rattle.upd_subcommands.proofs.Common.{None, Some, ap, arith, length, subst}
 use Rattle.upd_row_store.proofs.StoreLemmas.{keeps_keeps}
 use Rattle.upd_desk.specs.Journal.{library_after}
 use Rattle.upd_edit.specs.EditCauses.{IsPartsRefusal}
-use Rattle.upd_subcommands.proofs.PartLemmas.{parts_failure, parts_refusal, seen_free, spool_seen, used_failure, used_refusal}
+use Rattle.upd_subcommands.proofs.PartLemmas.{frame_failure, parts_failure, parts_refusal, seen_free, spool_seen, used_failure, used_refusal}
 use Rattle.upd_subcommands.proofs.parts_command.spool_at.Goals as goal
 
 pub overflow_add-end : goal.overflow_add-end
@@ -31,7 +31,8 @@ returns-in-Ok-Some-clause-refused g c honest journal held =
 
 pub returns-in-Ok-Some-clause-failed : goal.returns-in-Ok-Some-clause-failed
 returns-in-Ok-Some-clause-failed g c =
-    used_failure c.args.site.now c.args.number c.args.mode.now c.args.text.now c.in-Ok-Some.used c.number_used.result c.number_used.ensures
+    used_failure g.S.Meaning c.args.set.now c.args.site.now c.args.number c.args.mode.now c.args.text.now c.args.desk.now.store c.first_used.new.desk.store
+    c.in-Ok-Some.used c.number_used.result c.number_used.ensures
 
 pub returns-in-Ok-Some-clause-same : goal.returns-in-Ok-Some-clause-same
 returns-in-Ok-Some-clause-same g c = keeps_keeps c.in-Ok.ensures.same c.in-Ok-Some.ensures.same
@@ -47,4 +48,10 @@ returns-clause-refused g c honest journal held =
 
 pub returns-clause-failed : goal.returns-clause-failed
 returns-clause-failed g c =
-    parts_failure c.args.site.now c.args.number c.args.mode.now c.args.text.now c.in-Err.error c.in-Err.ensures.lost c.in-Err.ensures.long
+    parts_failure g.S.Meaning c.args.set.now c.args.site.now c.args.number c.args.mode.now c.args.text.now c.args.desk.now.store c.parts_at.new.desk.store
+    c.in-Err.error c.in-Err.ensures.lost c.in-Err.ensures.long
+
+pub returns-in-Ok-clause-failed : goal.returns-in-Ok-clause-failed
+returns-in-Ok-clause-failed g c =
+    frame_failure g.S.Meaning c.args.set.now _ c.args.site.now c.args.number c.args.mode.now c.args.text.now c.in-Ok.runs.items _ c.in-Err-spool_of.fault
+    c.args.desk.now.store c.parts_at.new.desk.store c.as_bytes.ensures.value c.deref.ensures.value c.in-Ok.ensures.corrects c.in-Err-spool_of.ensures.refused
