@@ -30,7 +30,8 @@ MODES = ["full", "normal", "quick"]
 SCRIPTS = {"upd-bring": "bring.sh", "upd-tree": "tree.sh", "upd-edit": "edit.sh", "upd-put": "put.sh"}
 WORDS = {"upd-bring library.db ": [], "upd-bring --skip --list ": ["library.db"], "upd-tree library.db ": [], "upd-edit library.db LYON ": [],
          "upd-edit --mode ": MODES, "upd-edit --mode quick ": ["library.db"], "upd-edit --set ": [], "upd-edit --list ": ["library.db"],
-         "upd-put -m ": [], "upd-put library.db ": [], "upd-put library.db LYON ": ["library.db"]}
+         "upd-put -m ": [], "upd-put library.db ": [], "upd-put library.db LYON ": ["library.db"],
+         "upd-put library.db LYON LIST folder new.c ": ["library.db"]}
 
 # Asks bash for the completions of the words after its script, the last of which is being typed.
 BASH = 'source "$0"; COMP_WORDS=("$@"); COMP_CWORD=$(($# - 1)); %s; printf "%%s\\n" "${COMPREPLY[@]}"'
@@ -57,6 +58,7 @@ def asked(shell, commands):
               "upd correct-parts library.db FIX LYON 1 ": MODES, "upd try library.db ": MODES, "upd try-at library.db ": MODES,
               "upd run library.db LYON ": [], "upd explain Set": ["Settled"], "upd help ": sorted(commands)}
     wanted |= {f"upd {command} ": ["library.db"] for command in commands if command not in ("trial", "explain", "help")}
+    wanted |= {f"upd {command} library.db ": ["library.db"] for command in ("serve-local", "backup", "compact")}
     wanted |= {f"{script} ": ["library.db"] for script in SCRIPTS} | WORDS
     wanted |= {f"{script} -": sorted(re.findall(r"\[(--?\w+)", usage(script))) for script in SCRIPTS}
     with tempfile.TemporaryDirectory() as folder:

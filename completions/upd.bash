@@ -8,7 +8,7 @@ _upd() {
         2,help) words=$commands ;;
         2,trial | 5,run | 5,run-at | 6,correct-parts | 3,try | 3,try-at) words="full quick normal --help" ;;
         2,explain) words="RunLong TooManyLines BadByte LineLong BadName BadCard BadField NoIdent TextNowhere NameTaken IdentUnknown DeckUnknown CardUnknown RangeOrder DeckCard YankText YankSelf Reserved Full CallUnknown CallDepth CompileLong BadSite BadNumber BadMode RunChanged Settled NoMemory Store BadFrame CutFrame Read Write --help" ;;
-        2,*) compopt -o filenames 2> /dev/null; mapfile -t COMPREPLY < <(compgen -f -- "$word"; compgen -W --help -- "$word"); return ;;
+        2,* | 3,serve-local | 3,backup | 3,compact) compopt -o filenames 2> /dev/null; mapfile -t COMPREPLY < <(compgen -f -- "$word"; compgen -W --help -- "$word"); return ;;
     esac
     mapfile -t COMPREPLY < <(compgen -W "$words" -- "$word")
 }
@@ -31,8 +31,8 @@ _upd_script() {
         --set,* | -m,*) ;;
         --list,* | *,[!-]*,1 | *,,1) compopt -o filenames 2> /dev/null; mapfile -t COMPREPLY < <(compgen -f -- "$word") ;;
         *,-*,1) mapfile -t COMPREPLY < <(compgen -W "$options" -- "$word") ;;
-        *,[!-]*,[345] | *,,[345])
-            [ "${COMP_WORDS[0]##*/}" != upd-put ] || { compopt -o filenames 2> /dev/null; mapfile -t COMPREPLY < <(compgen -f -- "$word"); } ;;
+        *,[!-]*,* | *,,*)
+            [ "${COMP_WORDS[0]##*/}" != upd-put ] || [ "$place" -lt 3 ] || { compopt -o filenames 2> /dev/null; mapfile -t COMPREPLY < <(compgen -f -- "$word"); } ;;
     esac
 }
 complete -F _upd_script upd-bring upd-tree upd-edit upd-put

@@ -42,6 +42,7 @@ complete -c upd -n "__fish_seen_subcommand_from explain; and test $words -eq 2" 
 complete -c upd -n "__fish_seen_subcommand_from try try-at; and test $words -eq 3" -a 'full quick normal'
 complete -c upd -n "__fish_seen_subcommand_from help; and test $words -eq 2" -a "$commands"
 complete -c upd -n "__fish_seen_subcommand_from init run settle spool serve serve-local compile list history blame show idents yanks page text text-at correct correct-at correct-parts try try-at run-at source runs sites backup compact examine replay migrate; and test $words -eq 2" -F
+complete -c upd -n "__fish_seen_subcommand_from serve-local backup compact; and test $words -eq 3" -F
 complete -c upd -s h -l help -d 'show the words of a command'
 complete -c upd -s V -l version -d 'show the version'
 
