@@ -286,12 +286,12 @@ same_text() {
     must [ "$(wc -l <parts/a.txt)" -eq 2200 ]
 }
 
-# New files, by their paths from FOLDER or from here, and with a message. What is not in FOLDER is refused before anything is sent.
+# New files, by their paths from FOLDER or from here, with a message, by a relative UPD. What is not in FOLDER is refused, and nothing is sent.
 try_news() {
     rm -rf p.db p.db-wal parts LIST.P now && oslo_number=0
     expect 0 "$upd" init p.db
     oslo '*DECK NEW\nby OSLO\n'
-    mkdir -p parts/in parts/parts && : >LIST.P
+    mkdir -p parts/in parts/parts && : >LIST.P && ln -s "$upd" upd
     for new in a.c in/b.c c.c parts/c.c new.c; do echo "$new" >"parts/$new"; done
     awk 'BEGIN { for (i = 1; i <= 4000; i++) print "line " i }' >parts/long.c
     for new in "$(pwd)/run" ../run parts/../run; do
@@ -299,7 +299,7 @@ try_news() {
         must grep -qxF "put.sh: $new is not in parts" err
     done
     must [ "$("$upd" idents p.db | wc -l)" -eq 1 ]
-    expect 0 script put --yes -m 'why new' p.db LYON LIST.P ./parts a.c "$(pwd)/parts/in/b.c" parts/c.c parts//new.c in/../long.c
+    UPD=./upd expect 0 script put --yes -m 'why new' p.db LYON LIST.P ./parts a.c "$(pwd)/parts/in/b.c" parts/c.c parts//new.c in/../long.c
     must grep -q 'has a deck NEW that LIST' err
     must [ "$(sed -n 's/^path //p' LIST.P | tr '\n' ' ')" = 'a.c in/b.c parts/c.c new.c long.c ' ]
     must [ "$("$upd" runs p.db | grep -c ' # why new$')" -eq 7 ]

@@ -81,6 +81,7 @@ put=$list.put runs=$list.put asked=$asked$yes
 work=$(mktemp -d) || exit 3
 trap 'rm -rf "$work"' EXIT
 trap 'exit 3' HUP INT TERM
+case $upd in /*) ;; */*) upd=$(pwd)/$upd ;; esac # bring.sh works in FOLDER
 export UPD="$upd"
 
 # The decks of LIST: name, path, SINCE and its serial, the sums of lines and file, rights, and how the file was made to fit, one a line.
@@ -335,7 +336,7 @@ send_all() {
     asked_site=$site asked_mode=$mode
     read -r site mode <"$put/ready" || exit 3
     if [ -e "$put/spool" ]; then
-        ask spool "$library" <"$put/spool" >"$work/answers" || exit 3
+        ask spool -- "$library" <"$put/spool" >"$work/answers" || exit 3
         if grep -v '"state":"accepted"}$' "$work/answers" >&2; then
             rm -rf "$put"
             exit 1
@@ -448,7 +449,6 @@ keep_deck() {
     NR == FNR { if ($NF != "purged") serial[$2] = $1; next }
     { print serial[$3] + 0, FNR, $0 }' "$work/held" "$work/decks" | sort -k 1,1n -k 2,2n | cut -d ' ' -f 3- >"$work/order" || exit 3
 if [ $# -gt 0 ]; then
-    case $library in /*) ;; *) library=$(pwd)/$library ;; esac
     case $bring in /*) ;; *) bring=$(pwd)/$bring ;; esac
     unset CDPATH
     cp "$list" "$work/list" || exit 3
