@@ -7,8 +7,8 @@
 # library by put.sh, on other lines, on the same one and at the same time, and one twice at once; one adds files, removes one, changes 2,500 lines, and is
 # killed while it sends. edit.sh edits a deck, a line that another site has changed, and files of a tree. An edit of several runs meets what came before its
 # first run, between two of them and after one that got no answer; and idents are purged, or come again, that an edit has seen. Decks go out of use and are
-# purged. site.sh sends a run, and once finds its folder in use. What comes out must be the tree that was put in, and LIST the same under all. Exit status: 0
-# all is as it should be, 1 something is not, 3 the executable is not there.
+# purged. LIST has an odd name. site.sh sends a run, and once finds its folder in use. What comes out must be the tree that was put in, and LIST the same
+# under all. Exit status: 0 all is as it should be, 1 something is not, 3 the executable is not there.
 set -u
 export LC_ALL=C
 root=$(cd "$(dirname -- "$0")/.." && pwd)
@@ -409,6 +409,26 @@ try_yanks() {
     done
 }
 
+# A LIST whose name awk takes for an assignment, and for which there is no room.
+try_names() {
+    mkdir named && printf 'one\n' >named/a.c && printf 'two\n' >named/b.c
+    expect 0 "$upd" init n.db
+    expect 0 answering 'named/a.c\n' script bring --list v=1 n.db LYON 1 && cp out spool
+    expect 0 "$upd" spool n.db <spool
+    cp v=1 full && ln -s /dev/full full.new
+    expect 3 script tree --list full n.db t
+    must [ ! -L full ]
+    rm -r t
+    expect 0 script tree --list v=1 n.db t </dev/null
+    must grep -qx 'since A 1' v=1
+    echo more >>t/named/a.c
+    expect 0 script put --yes n.db LYON v=1 t </dev/null
+    must grep -qx 'since LYON2 2' v=1
+    expect 0 env EDITOR="sed -i -e s/more/MORE/" sh -c 'echo yes | sh "$0" --list v=1 n.db LYON A' "$root/examples/edit.sh"
+    must [ "$("$upd" text n.db A | tail -n 1)" = MORE ]
+    must grep -qx 'deck A' v=1
+}
+
 try_site() {
     mkdir -p site/outbox && printf '*DECK S\nONE\n' >site/outbox/a.quick
     expect 0 script site site BERN l.db
@@ -436,6 +456,7 @@ try_tools() {
     try_purges
     try_decks
     try_yanks
+    try_names
     try_site
     PATH=$old_path
     [ -e "$work/LIST" ] || cp LIST.LYON "$work/LIST"

@@ -72,6 +72,7 @@ done
 case $3 in
 '' | 0* | *[!0-9]* | ??????????*) usage ;;
 esac
+case $list in -* | [!/]*=*) list=./$list ;; esac # no option, and no assignment of awk
 library=$1 site=$2 number=$3 mode=quick
 upd=${UPD:-upd} files=0 unfit=0
 check_words

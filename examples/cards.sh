@@ -126,7 +126,7 @@ check() {
     {
         echo '*DECK A'
         sed -E 's/^\*(DECK|DK|COMDECK|CD)([ ,]|$)/*ID\2/' "$work/cards"
-    } | "$upd" correct "$empty" CHECK 2>&1 >"$work/run" | file=$file awk -v map="$work/map" '
+    } | "$upd" correct -- "$empty" CHECK 2>&1 >"$work/run" | file=$file awk -v map="$work/map" '
         BEGIN { while ((getline < map) > 0) { line[++count] = $1; before[count] = $2 } }
         $1 == "TooManyLines" || $1 == "RunLong" { next }
         $1 == "upd:" { print ENVIRON["file"] ": " $0; next }

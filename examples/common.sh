@@ -62,6 +62,12 @@ lock_list() {
     done
 }
 
+# LIST becomes what awk, with these words, makes of it: all or nothing. `cat` sees that the disk is full, busybox awk doesn't.
+change_list() {
+    rm -f "$work/whole"
+    { awk "$@" <"$list" && : >"$work/whole"; } | cat >"$list.new" && [ -e "$work/whole" ] && mv "$list.new" "$list" || exit 3
+}
+
 check_words() {
     case $site in
     '' | *[!A-Z0-9]* | ?????????*) usage ;;

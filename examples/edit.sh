@@ -60,6 +60,7 @@ while [ $# -gt 0 ]; do
 done
 [ $# -ge 3 ] || usage
 [ -z "$list" ] || [ -z "$set" ] || usage
+case $list in -* | [!/]*=*) list=./$list ;; esac # no option, and no assignment of awk
 library=$1 site=$2 upd=${UPD:-upd} sent='' editor=${VISUAL:-${EDITOR:-vi}}
 shift 2
 check_words
@@ -253,7 +254,8 @@ edit_files() {
         [ $? -eq 2 ] || exit 1
     done
     sent=1
-    awk -v new="$work/list" '
+    # shellcheck disable=SC2016 # these words are of awk
+    change_list -v new="$work/list" '
         BEGIN {
             while ((getline line < new) > 0) {
                 split(line, word, " ")
@@ -262,7 +264,7 @@ edit_files() {
             }
         }
         $1 == "deck" { on = $2 in lines; if (on) printf "%s", lines[$2] }
-        !on || $1 == "since" || $1 == "sum"' "$list" >"$list.new" && mv "$list.new" "$list" || exit 3
+        !on || $1 == "since" || $1 == "sum"'
     exit 0
 }
 

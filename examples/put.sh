@@ -69,6 +69,7 @@ done
 [ $# -ge 4 ] || usage
 library=$1 site=$2 list=$3 folder=$4 upd=${UPD:-upd} result=0
 shift 4
+case $list in -* | [!/]*=*) list=./$list ;; esac # no option, and no assignment of awk
 check_words
 again="make the tree again, by tree.sh --list $list .., and your changes in it"
 
@@ -105,23 +106,26 @@ section() {
 
 # Replaces the lines of a deck in LIST by those of a file, or removes them.
 replace_section() {
-    deck=$1 with=$2 awk '
-        $1 == "deck" { on = $2 == ENVIRON["deck"]; if (on) while ((getline line < ENVIRON["with"]) > 0) print line }
-        !on' "$list" >"$list.new" && mv "$list.new" "$list" || exit 3
+    # shellcheck disable=SC2016 # these words are of awk
+    change_list -v deck="$1" -v with="$2" '
+        $1 == "deck" { on = $2 == deck; if (on) while ((getline line < with) > 0) print line }
+        !on'
 }
 
 # Notes a SINCE for the decks that a file names.
 note_since() {
-    since=$2 awk -v decks="$1" '
+    # shellcheck disable=SC2016 # these words are of awk
+    change_list -v since="$2" -v decks="$1" '
         BEGIN { while ((getline deck < decks) > 0) listed[deck] }
         $1 == "deck" { on = $2 in listed }
         !(on && $1 == "since")
-        on && $1 == "deck" { print "since " ENVIRON["since"] }' "$list" >"$list.new" && mv "$list.new" "$list" || exit 3
+        on && $1 == "deck" { print "since " since }'
 }
 
 # Notes SINCE and sum for the decks of work/same: those of the tree that is written from the library.
 note_same() {
-    awk -v decks="$work/same" -v now="$work/now" '
+    # shellcheck disable=SC2016 # these words are of awk
+    change_list -v decks="$work/same" -v now="$work/now" '
         BEGIN {
             while ((getline deck < decks) > 0) listed[deck]
             while ((getline line < now) > 0) {
@@ -132,7 +136,7 @@ note_same() {
         }
         $1 == "deck" { on = $2 in listed }
         !(on && $1 ~ /^(since|sum)$/)
-        on && $1 == "deck" { printf "%s", noted[$2] }' "$list" >"$list.new" && mv "$list.new" "$list" || exit 3
+        on && $1 == "deck" { printf "%s", noted[$2] }'
 }
 
 # What LIST notes as the sum of lines.

@@ -59,6 +59,7 @@ fi
     exit 2
 }
 library=$1 folder=$2 upd=${UPD:-upd} result=0
+case $list in -* | [!/]*=*) list=./$list ;; esac # no option, and no assignment of awk
 
 work=$(mktemp -d) || exit 3
 trap 'rm -rf "$work"' EXIT
@@ -175,9 +176,11 @@ while read -r word rest || [ -n "$word" ]; do
 done
 if [ -n "$deck" ]; then write_file "$deck" "$path"; fi
 if [ -n "$list" ]; then
-    since=$since awk -v sums="$work/sums" '
+    # All or nothing: `cat` sees that the disk is full, busybox awk doesn't.
+    { since=$since awk -v sums="$work/sums" '
         BEGIN { while ((getline line < sums) > 0) { split(line, word, " "); sum[word[1]] = "sum " substr(line, length(word[1]) + 2) } }
         $1 != "since" && $1 != "sum" { print }
-        $1 == "deck" { print "since " ENVIRON["since"]; if ($2 in sum) print sum[$2] }' "$list" >"$list.new" && mv "$list.new" "$list" || exit 3
+        $1 == "deck" { print "since " ENVIRON["since"]; if ($2 in sum) print sum[$2] }' <"$list" \
+        && : >"$work/whole"; } | cat >"$list.new" && [ -e "$work/whole" ] && mv "$list.new" "$list" || exit 3
 fi
 exit "$result"
