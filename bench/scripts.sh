@@ -409,7 +409,12 @@ try_yanks() {
     done
 }
 
-# A LIST whose name awk takes for an assignment, and for which there is no room.
+# Takes the end of the last line from LIST.
+open_list() {
+    printf %s "$(cat v=1)" >new && mv new v=1
+}
+
+# A LIST whose name awk takes for an assignment, whose last line has no end, and for which there is no room.
 try_names() {
     mkdir named && printf 'one\n' >named/a.c && printf 'two\n' >named/b.c
     expect 0 "$upd" init n.db
@@ -426,7 +431,12 @@ try_names() {
     must grep -qx 'since LYON2 2' v=1
     expect 0 env EDITOR="sed -i -e s/more/MORE/" sh -c 'echo yes | sh "$0" --list v=1 n.db LYON A' "$root/examples/edit.sh"
     must [ "$("$upd" text n.db A | tail -n 1)" = MORE ]
-    must grep -qx 'deck A' v=1
+    open_list && cp v=1 v=2
+    expect 0 answering 'named/b.c\n' script bring --list v=2 n.db LYON 9
+    must [ "$(grep '^deck' v=2 | tr '\n' ' ')" = 'deck A deck B ' ]
+    cp named/b.c t/named
+    expect 0 script put --yes n.db LYON v=1 t named/b.c </dev/null
+    must [ "$(grep '^deck' v=1 | tr '\n' ' ')" = 'deck A deck B ' ]
 }
 
 try_site() {

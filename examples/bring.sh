@@ -87,7 +87,7 @@ if [ -n "$message" ]; then printf '*/ %s\n' "$message"; fi >"$work/message" || e
 : >"$spool" && : >"$added" && : >"$work/list" && : >"$work/report" || exit 3
 "$upd" init "$work/empty" || exit 3
 "$upd" idents -- "$library" >"$work/idents" || exit 3
-if [ -n "$list" ] && [ -e "$list" ]; then cat "$list"; fi >"$work/old" || exit 3
+if [ -n "$list" ] && [ -e "$list" ]; then awk 1 <"$list"; fi >"$work/old" || exit 3 # a last line without an end gets it
 {
     printf '%s\n' '*' 'YANK$$$'
     grep -v ' purged$' "$work/idents" | cut -d ' ' -f 2

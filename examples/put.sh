@@ -346,7 +346,7 @@ send_all() {
             exit 1
         fi
         sed -n -e 's/^deck //p' -e 's/^part \([^ ]*\) .*/\1/p' "$put/list" >>"$work/ours"
-        if ! grep -qxF -e "$(sed 1q "$put/list")" "$list"; then cat "$list" "$put/list" >"$list.new" && mv "$list.new" "$list" || exit 3; fi
+        if ! grep -qxF -e "$(sed 1q "$put/list")" "$list"; then change_list 1 - "$put/list"; fi
         rm -f "$put/spool"
     fi
     for each in $(ls "$put" | grep '^[1-9][0-9]*$' | sort -n); do send "$put/$each"; done
@@ -455,12 +455,12 @@ keep_deck() {
 if [ $# -gt 0 ]; then
     case $bring in /*) ;; *) bring=$(pwd)/$bring ;; esac
     unset CDPATH
-    cp "$list" "$work/list" || exit 3
+    awk 1 <"$list" >"$work/list" && known=$(($(wc -l <"$work/list"))) || exit 3
     for new; do inner_path "$new" || unfit=1; done >"$work/names"
     [ "$unfit" -eq 0 ] || exit 1
     # shellcheck disable=SC2086 # $c is an option or nothing
     (cd "$folder" && sh "$bring" $c ${message:+-m "$message"} --list "$work/list" "$copy" "$site" "$number" <"$work/names" >"$work/spool") || exit $?
-    tail -n +$(($(wc -l <"$list") + 1)) "$work/list" >"$put/list" && cp "$work/spool" "$put/spool" || exit 3
+    tail -n +$((known + 1)) "$work/list" >"$put/list" && cp "$work/spool" "$put/spool" || exit 3
     number=$((number + $(grep -c "^RUN $site [0-9]* quick [0-9]*\$" "$work/spool")))
     sed -n -e 's/^deck //p' -e 's/^part \([^ ]*\) .*/0 \1/p' "$put/list" | sed 's/.*/0 & set held/' >>"$work/held"
 fi
