@@ -7,8 +7,8 @@
 # library by put.sh, on other lines, on the same one and at the same time, and one twice at once; one adds files, removes one, changes 2,500 lines, and is
 # killed while it sends. edit.sh edits a deck, a line that another site has changed, and files of a tree. An edit of several runs meets what came before its
 # first run, between two of them and after one that got no answer; and idents are purged, or come again, that an edit has seen. Decks go out of use and are
-# purged. LIST has an odd name. site.sh sends a run, and once finds its folder in use. What comes out must be the tree that was put in, and LIST the same
-# under all. Exit status: 0 all is as it should be, 1 something is not, 3 the executable is not there.
+# purged. LIST and the tree have odd names. site.sh sends a run, and once finds its folder in use. What comes out must be the tree that was put in, and LIST
+# the same under all. Exit status: 0 all is as it should be, 1 something is not, 3 the executable is not there.
 set -u
 export LC_ALL=C
 root=$(cd "$(dirname -- "$0")/.." && pwd)
@@ -414,28 +414,28 @@ open_list() {
     printf %s "$(cat v=1)" >new && mv new v=1
 }
 
-# A LIST whose name awk takes for an assignment, whose last line has no end, and for which there is no room.
+# A LIST whose name awk takes for an assignment, whose last line has no end, and for which there is no room; a tree whose name looks like an option.
 try_names() {
-    mkdir named && printf 'one\n' >named/a.c && printf 'two\n' >named/b.c
+    mkdir named && printf 'one\n' >named/a.c && printf 'two\n' >named/b.c && chmod 755 named/a.c
     expect 0 "$upd" init n.db
     expect 0 answering 'named/a.c\n' script bring --list v=1 n.db LYON 1 && cp out spool
     expect 0 "$upd" spool n.db <spool
     cp v=1 full && ln -s /dev/full full.new
-    expect 3 script tree --list full n.db t
+    expect 3 script tree --list full n.db -t
     must [ ! -L full ]
-    rm -r t
-    expect 0 script tree --list v=1 n.db t </dev/null
+    rm -r ./-t
+    expect 0 script tree --list v=1 n.db -t </dev/null
     must grep -qx 'since A 1' v=1
-    echo more >>t/named/a.c
-    expect 0 script put --yes n.db LYON v=1 t </dev/null
+    echo more >>./-t/named/a.c
+    expect 0 script put --yes n.db LYON v=1 -t </dev/null
     must grep -qx 'since LYON2 2' v=1
     expect 0 env EDITOR="sed -i -e s/more/MORE/" sh -c 'echo yes | sh "$0" --list v=1 n.db LYON A' "$root/examples/edit.sh"
     must [ "$("$upd" text n.db A | tail -n 1)" = MORE ]
     open_list && cp v=1 v=2
     expect 0 answering 'named/b.c\n' script bring --list v=2 n.db LYON 9
     must [ "$(grep '^deck' v=2 | tr '\n' ' ')" = 'deck A deck B ' ]
-    cp named/b.c t/named
-    expect 0 script put --yes n.db LYON v=1 t named/b.c </dev/null
+    cp named/b.c ./-t/named
+    expect 0 script put --yes n.db LYON v=1 -t named/b.c </dev/null
     must [ "$(grep '^deck' v=1 | tr '\n' ' ')" = 'deck A deck B ' ]
 }
 

@@ -69,6 +69,7 @@ done
 [ $# -ge 4 ] || usage
 library=$1 site=$2 list=$3 folder=$4 upd=${UPD:-upd} result=0
 shift 4
+case $folder in -*) folder=./$folder ;; esac
 case $list in -* | [!/]*=*) list=./$list ;; esac # no option, and no assignment of awk
 check_words
 again="make the tree again, by tree.sh --list $list .., and your changes in it"

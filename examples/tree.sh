@@ -59,6 +59,7 @@ fi
     exit 2
 }
 library=$1 folder=$2 upd=${UPD:-upd} result=0
+case $folder in -*) folder=./$folder ;; esac
 case $list in -* | [!/]*=*) list=./$list ;; esac # no option, and no assignment of awk
 
 work=$(mktemp -d) || exit 3
