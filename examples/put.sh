@@ -392,7 +392,8 @@ add_deck() {
         tail -n +2 "$work/part" >>"$run/run" || exit 3
     fi
     keep_deck
-    say "$path, the deck $deck: $(($(wc -l <"$work/part") - 1)) lines of run ${run##*/}"
+    lines=$(($(wc -l <"$work/part") - 1))
+    say "$path, the deck $deck: $lines line$([ "$lines" -eq 1 ] || echo s) of run ${run##*/}"
 }
 
 # The lines that correct a deck, by the set. A deck that needs several runs gets them.
