@@ -7,8 +7,8 @@
 # library by put.sh, on other lines, on the same one and at the same time, and one twice at once; one adds files, removes one, changes 2,500 lines, and is
 # killed while it sends. edit.sh edits a deck, a line that another site has changed, and files of a tree. An edit of several runs meets what came before its
 # first run, between two of them and after one that got no answer; and idents are purged, or come again, that an edit has seen. Decks go out of use and are
-# purged. LIST and the tree have odd names. site.sh sends a run, and once finds its folder in use. What comes out must be the tree that was put in, and LIST
-# the same under all. Exit status: 0 all is as it should be, 1 something is not, 3 the executable is not there.
+# purged. LIST and the tree have odd names, and a file becomes a folder. site.sh sends a run, and once finds its folder in use. What comes out must be the
+# tree that was put in, and LIST the same under all. Exit status: 0 all is as it should be, 1 something is not, 3 the executable is not there.
 set -u
 export LC_ALL=C
 root=$(cd "$(dirname -- "$0")/.." && pwd)
@@ -439,6 +439,26 @@ try_names() {
     must [ "$(grep '^deck' v=1 | tr '\n' ' ')" = 'deck A deck B ' ]
 }
 
+# A file that became a folder.
+try_folders() {
+    mkdir plain && printf 'one\ntwo\n' >plain/a.c && printf 'b\n' >plain/b.h
+    expect 0 "$upd" init f.db
+    expect 0 answering 'plain/a.c\nplain/b.h\n' script bring --list LIST.F f.db LYON 1 && cp out spool
+    expect 0 "$upd" spool f.db <spool
+    expect 0 script tree --list LIST.F f.db plains
+    sed 1d plain/a.c >plains/plain/a.c
+    rm plains/plain/b.h && mkdir plains/plain/b.h && echo x >plains/plain/b.h/x.c
+    expect 1 script put --yes f.db LYON LIST.F plains
+    must grep -qx 'put.sh: plain/b.h is not a file now: --gone takes its deck B out of use' err
+    expect 0 script put --gone --yes f.db LYON LIST.F plains plain/b.h/x.c
+    must grep -q 'plain/a.c, the deck A: 1 line of run' err
+    must grep -qx 'put.sh: plain/b.h is not a file now: its deck B goes out of use' err
+    must [ "$(grep '^deck' LIST.F | tr '\n' ' ')" = 'deck A deck X ' ]
+    rm -rf now
+    expect 0 script tree f.db now <LIST.F
+    must diff -r now plains
+}
+
 try_site() {
     mkdir -p site/outbox && printf '*DECK S\nONE\n' >site/outbox/a.quick
     expect 0 script site site BERN l.db
@@ -467,6 +487,7 @@ try_tools() {
     try_decks
     try_yanks
     try_names
+    try_folders
     try_site
     PATH=$old_path
     [ -e "$work/LIST" ] || cp LIST.LYON "$work/LIST"

@@ -17,8 +17,8 @@
 # meanwhile it is not stored, and you are asked again; of several runs for a file before the first of them is sent.
 #
 #     --c           all files are made to fit as by bring.sh, also where LIST doesn't say so yet
-#     --gone        takes the decks out of use whose files are gone from FOLDER, and removes them from LIST, but for what others
-#                   have changed meanwhile
+#     --gone        takes the decks out of use whose files are gone from FOLDER, or are folders now, and removes them from LIST,
+#                   but for what others have changed meanwhile
 #     --yes         sends the runs without asking, but where others have changed the same lines
 #     --mode MODE   the mode of the runs: full, normal, or quick, which it is else
 #     -m MESSAGE    what the runs are for, at most 77 bytes: their first line, as a comment. Asked for at a terminal.
@@ -429,16 +429,21 @@ has_noted_rights() {
     [ "$rights" = "$noted" ] || [ "$rights" = "$(mode_of "$work/tree/$path")" ]
 }
 
-# A file that is gone. What others have done to its deck since has to be seen before that goes out of use.
+# A file that is gone, or became a folder. What others have done to its deck since has to be seen before that goes out of use.
 take_out() {
-    if [ -z "$gone" ]; then
+    is=gone
+    if [ -e "$folder/$path" ]; then is='not a file now'; fi
+    if [ -z "$gone" ] && [ "$is" = gone ]; then
         say "$path is gone"
+    elif [ -z "$gone" ]; then
+        say "$path is $is: --gone takes its deck $deck out of use"
+        unfit=1
     elif ask text -- "$copy" "$deck" >"$work/base" && [ "$(sed 1d "$work/base" | sum_of)" = "$sum" ]; then
         printf '%s %s\n' "$deck" "$code" >>"$work/gone"
-        say "$path is gone: its deck $deck goes out of use"
+        say "$path is $is: its deck $deck goes out of use"
     else
-        say "$path is gone, but its deck $deck was changed by others, or LIST doesn't show: $again"
-        result=1
+        say "$path is $is, but its deck $deck was changed by others, or LIST doesn't show: $again"
+        if [ "$is" = gone ]; then result=1; else unfit=1; fi # NEW may be in that folder
     fi
 }
 
@@ -473,7 +478,7 @@ while read -r deck code since serial sum file_sum noted fit <&3; do
         unfit=1
         continue
     elif [ ! -e "$work/tree/$path" ]; then
-        if [ -n "$gone" ] && [ ! -e "$folder/$path" ]; then
+        if [ -n "$gone" ] && [ ! -f "$folder/$path" ]; then
             printf '%s\n' "$deck" >>"$work/unlisted"
             continue
         fi
@@ -481,7 +486,7 @@ while read -r deck code since serial sum file_sum noted fit <&3; do
         printf '%s\n' "$deck" >>"$work/stays"
         result=1
         continue
-    elif [ ! -e "$folder/$path" ]; then
+    elif [ ! -f "$folder/$path" ]; then
         take_out
         continue
     elif cmp -s "$folder/$path" "$work/tree/$path" && has_noted_rights; then
