@@ -7,8 +7,8 @@
 # library by put.sh, on other lines, on the same one and at the same time, and one twice at once; one adds files, removes one, changes 2,500 lines, and is
 # killed while it sends. edit.sh edits a deck, a line that another site has changed, and files of a tree. An edit of several runs meets what came before its
 # first run, between two of them and after one that got no answer; and idents are purged, or come again, that an edit has seen. Decks go out of use and are
-# purged. LIST and the tree have odd names, and a file becomes a folder. site.sh sends a run, and once finds its folder in use. What comes out must be the
-# tree that was put in, and LIST the same under all. Exit status: 0 all is as it should be, 1 something is not, 3 the executable is not there.
+# purged. LIST and the tree have odd names, a disk is full, and a file becomes a folder. site.sh sends a run, and once finds its folder in use. What comes out
+# must be the tree that was put in, and LIST the same under all. Exit status: 0 all is as it should be, 1 something is not, 3 the executable is not there.
 set -u
 export LC_ALL=C
 root=$(cd "$(dirname -- "$0")/.." && pwd)
@@ -439,6 +439,33 @@ try_names() {
     must [ "$(grep '^deck' v=1 | tr '\n' ' ')" = 'deck A deck B ' ]
 }
 
+# What others have sent comes into a tree on a disk that is full, then isn't; a file that nobody may write, and one that is a link.
+try_full() {
+    mkdir others && for name in a b c; do printf '%s\ntwo\n' "$name" >"others/$name.c"; done
+    expect 0 "$upd" init o.db
+    expect 0 answering 'others/a.c\nothers/b.c\nothers/c.c\n' script bring --list LIST.O o.db LYON 1 && cp out spool
+    expect 0 "$upd" spool o.db <spool
+    expect 0 script tree --list LIST.O o.db filled
+    chmod 444 filled/others/b.c && mv filled/others/c.c linked && ln -s ../../linked filled/others/c.c
+    expect 0 script put --yes o.db LYON LIST.O filled
+    printf '*IDENT O\n*INSERT A.2\nby OSLO\n*INSERT B.2\nby OSLO\n*INSERT C.2\nby OSLO\n' >run
+    expect 0 "$upd" run o.db OSLO 1 quick <run
+    # shellcheck disable=SC2016 # these words are of the script
+    printf '#!/bin/sh\ncase ${1-} in */tree/others/a.c) head -c 3 "$1"; exit 1 ;; esac\nexec %s "$@"\n' "$(command -v cat)" >bin/cat && chmod +x bin/cat
+    expect 3 script put --yes o.db LYON LIST.O filled
+    rm bin/cat
+    must cmp others/a.c filled/others/a.c
+    must grep -q '^put.sh: others/a.c can.t be written' err
+    expect 0 script put --yes o.db LYON LIST.O filled
+    must [ "$("$upd" idents o.db | wc -l)" -eq 4 ]
+    rm -rf now && expect 0 script tree o.db now <LIST.O
+    must diff -r now filled
+    must [ -L filled/others/c.c ]
+    rights filled/others | grep b.c >held_rights
+    must grep -q '^-r--r--r-- ' held_rights
+    must [ "$(ls -A filled/others | tr '\n' ' ')" = 'a.c b.c c.c ' ]
+}
+
 # A file that became a folder.
 try_folders() {
     mkdir plain && printf 'one\ntwo\n' >plain/a.c && printf 'b\n' >plain/b.h
@@ -487,6 +514,7 @@ try_tools() {
     try_decks
     try_yanks
     try_names
+    try_full
     try_folders
     try_site
     PATH=$old_path

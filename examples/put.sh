@@ -253,14 +253,25 @@ mode_of() {
         NR == 1 { print digit(substr($1, 2, 3)) digit(substr($1, 5, 3)) digit(substr($1, 8, 3)) }'
 }
 
+# Writes a file of FOLDER. Before it has its place it is complete, with the rights of what is there.
+write_file() {
+    file=$folder/$1
+    [ ! -L "$file" ] || file=$(readlink -f "$file") || exit 3
+    beside=${file%/*}/.upd.part
+    if cat "$2" >"$beside" && { [ ! -e "$file" ] || chmod "$(mode_of "$file")" "$beside"; } && mv -f "$beside" "$file"; then return; fi
+    rm -f "$beside"
+    say "$1 can't be written, and is as it was. Once it can be, start it again"
+    exit 3
+}
+
 # Brings what the library has into FOLDER, where the file is still that of the second path.
 refresh() {
     if cmp -s "$3" "$folder/$1"; then return; fi
     if cmp -s "$2" "$folder/$1"; then
-        cat "$3" >"$folder/$1" || exit 3
+        write_file "$1" "$3"
         say "$1 has now what others have sent, too"
     else
-        cat "$3" >"$folder/$1.upd" || exit 3
+        write_file "$1.upd" "$3"
         say "$1 was changed meanwhile: what the library has is in $1.upd"
         result=1
     fi
