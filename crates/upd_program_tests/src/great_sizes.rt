@@ -64,11 +64,11 @@ fn eighty_findings_are_written_whole(rt: HostRuntime) -> Result<(), Fail> {
 }
 
 #[test]
-fn a_library_of_42000_cards_is_examined(rt: HostRuntime) -> Result<(), Fail> {
-    const LINE: &str = "sound: decks 21, cards 42000, runs 21, replies 2042";
+fn a_library_of_10000_cards_is_examined(rt: HostRuntime) -> Result<(), Fail> {
+    const LINE: &str = "sound: decks 5, cards 10000, runs 5, replies 480";
     let file = library(&rt, "examined")?;
     let mut spool = String::new(rt.alloc());
-    for number in 2..23 {
+    for number in 2..7 {
         add_deck(&mut spool, number)?;
     }
     is_sent(&rt, &file, spool.as_str())?;
