@@ -1,7 +1,8 @@
 -- Runs that are handed in one after the other at a desk, and the first table that is another.
-use Rattle.upd_keep.proofs.Common.{◌≡◌, false, ℕ, Bool, List, [], ◌∷◌, ◌++◌, length, Option, Some, None, Result, Ok, Err, IsTrue, inl, inr, refl, sym, ap, subst, ◌∙◌}
-use Rattle.upd_keep.proofs.Common.{arith, rules, count_by, IsOkUnless, Fault, NoMemory, Store, fault_at, IsSame, Rows, count_cons, IsLost, OfMemory, OfStore}
-use Rattle.upd_keep.proofs.Common.{no_rows, ArrivalView, Came, arrival_of, journal_with}
+use Rattle.upd_keep.proofs.Common.{◌≡◌, false, ℕ, Bool, List, [], ◌∷◌, ◌++◌, length, Option, Some, None, Result, Ok, Err, IsTrue, inl, inr, refl}
+use Rattle.upd_keep.proofs.Common.{sym, ap, subst, ◌∙◌, arith, rules, count_by}
+use Rattle.upd_keep.proofs.Common.{IsOkUnless, Fault, NoMemory, Store, fault_at, IsSame, Rows, count_cons, IsLost, OfMemory, OfStore, no_rows}
+use Rattle.upd_keep.proofs.Common.{ArrivalView, Came, arrival_of, journal_with}
 use Rattle.std.proofs.Common.{◌↔◌, cond, map, IfErr}
 use Rattle.upd_core.specs.declared.states.States.{States}
 use Rattle.upd_records.specs.Rows.{RunView}

@@ -64,7 +64,8 @@ abbrev pub IsFoundIn : Rows → Examined → Type 0
 IsFoundIn rows (Sound line) =
     (all : StoredTables) × AreStoredTables rows all × AreSoundRows all.library all.states all.kept.runs.items all.kept.marks.items
     × ((size : ℕ) × (line.items ≡ sound_line (count_by is_held_deck rows.idents) (length rows.cards) (length rows.runs) (reply_bytes all.kept.runs.items) size))
-IsFoundIn rows (Unsound lines) = (all : StoredTables) × AreStoredTables rows all × (¬ AreSoundRows all.library all.states all.kept.runs.items all.kept.marks.items)
+IsFoundIn rows (Unsound lines) =
+    (all : StoredTables) × AreStoredTables rows all × (¬ AreSoundRows all.library all.states all.kept.runs.items all.kept.marks.items)
 
 -- Calls that only read: a library that is committed stays, also after a crash.
 pub record Reads (old new : State) : Type 0 where

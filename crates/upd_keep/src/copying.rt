@@ -16,7 +16,7 @@ use std::io::{ErrorKind, Write};
 use std::os::unix::fs::{MetadataExt, OpenOptionsExt};
 use std::{fs, io};
 use upd_store::file::is_no_path;
-use upd_store::{fault_of, store_at};
+use upd_store::{fault_of, is_beside_file, store_at};
 use upd_text::{Fault, FaultKind};
 
 /// The bits of a file's mode that say who may read, write and run it.
@@ -68,7 +68,7 @@ pub fn whole_copy<D: Disk + Drop>(
 /// Makes a file that is a whole copy of a library's file, which `file` names. It is written under the name of the copy
 /// followed by `.part`, and gets its own name last, so that a kill leaves no part of it under that name. Its rights are
 /// at most those of the library's file. Write, at 0, where the copy, that part, or a log or journal beside the copy exists,
-/// or where it can't be written; no part of it is left then. Else the faults of `whole_copy`. No clause speaks of the copy
+/// where its name is that of another file's log or journal, or where it can't be written; no part of it is left then. Else the faults of `whole_copy`. No clause speaks of the copy
 /// itself, but only of what is written there.
 pub fn backup<D: Disk + Drop>(
     rt: &HostRuntime,
@@ -93,13 +93,13 @@ pub fn backup<D: Disk + Drop>(
     }
 }
 
-/// Makes a file with these bytes and at most the rights of another, which has no log and no journal, by a name that a library
-/// can have. The name is given by a link, since a link never replaces a file.
+/// Makes a file with these bytes and at most the rights of another, which has no log and no journal and is none of another
+/// file, by a name that a library can have. The name is given by a link, since a link never replaces a file.
 fn write_new(rt: &HostRuntime, model: &str, path: &str, bytes: &[u8]) -> io::Result<()> {
     let part = format!(in rt.alloc(); "{path}.part")?;
     let log = format!(in rt.alloc(); "{path}-wal")?;
     let journal = format!(in rt.alloc(); "{path}-journal")?;
-    if is_no_path(path) {
+    if is_no_path(path) || is_beside_file(rt, path)? {
         return Err(io::Error::from(ErrorKind::InvalidInput));
     }
     if is_taken(rt, path) || is_taken(rt, log.as_str()) || is_taken(rt, journal.as_str()) {

@@ -120,13 +120,17 @@ fn what_is_in_the_way_of_a_copy_stays(rt: HostRuntime) -> Result<(), Fail> {
     remove(&rt, &file)
 }
 
-/// No copy is made under a name that SQLite reads as something else.
+/// No copy is made under a name that SQLite reads as something else, or takes for part of another file.
 #[test]
 fn a_copy_has_the_name_of_a_file(rt: HostRuntime) -> Result<(), Fail> {
     let file = library(&rt, "unnamed")?;
     for copy in [":memory:", "file:upd-copy.db"] {
         is_refused(&rt, &file, copy)?;
         is_free(&rt, copy, "")?;
+    }
+    for ending in ["-journal", "-shm"] {
+        is_refused(&rt, &file, with_ending(&rt, &file, ending)?.as_str())?;
+        is_free(&rt, &file, ending)?;
     }
     remove(&rt, &file)
 }

@@ -146,6 +146,22 @@ fn a_library_is_made_beside_an_ended_journal(rt: HostRuntime) -> Result<(), Fail
     remove(&rt, &file)
 }
 
+/// Beside a file the names of its log, its journal and its shared memory aren't for a library. Rule 10.48.4.
+#[test]
+fn no_library_is_made_in_the_place_of_a_log(rt: HostRuntime) -> Result<(), Fail> {
+    let file = library(&rt, "placed")?;
+    for ending in ["-journal", "-shm", "-wal"] {
+        let path = format!(in rt.alloc(); "{file}{ending}")?;
+        let before = fs::read(&rt, path.as_str()).ok();
+        answers(&rt, &["init", &path], "", NO_LIBRARY)?;
+        holds(ending, fs::read(&rt, path.as_str()).ok() == before)?;
+    }
+    remove(&rt, &file)?;
+    let alone = format!(in rt.alloc(); "{file}-wal")?;
+    take_all(&rt, &alone, &[MADE])?;
+    remove(&rt, &alone)
+}
+
 /// A log that was left beside a new file is nobody else's to read.
 #[test]
 fn a_left_log_is_closed_to_others(rt: HostRuntime) -> Result<(), Fail> {

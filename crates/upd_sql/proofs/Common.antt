@@ -40,7 +40,7 @@ pub use Rattle.upd_sql.specs.Commits.{CountsStatuses, MayCommit, MayKeep, WasOpe
 pub use Rattle.upd_sql.specs.Doable.{AllCanBeDone}
 pub use Rattle.upd_sql.specs.Encoded.{card_row, count_row, entry_row, ident_row, mark_row, num, run_row, state_row, stored, target_code, target_row}
 pub use Rattle.upd_sql.specs.LibraryTables.{AnyTables, HoldsTables}
-pub use Rattle.upd_sql.specs.Listed.{AreInOrder, by_key, by_site, in_any_order}
+pub use Rattle.upd_sql.specs.Listed.{AreInOrder, in_any_order}
 pub use Rattle.upd_sql.specs.Making.{HasEmptyTables, MayMake, Transforms, no_rows}
 pub use Rattle.upd_sql.specs.RowEdits.{CanMoveOf, covers, with_count, with_mark, with_moved, with_others_moved, with_restated, with_state, without_card_rows}
 pub use Rattle.upd_sql.specs.RowEdits.{without_count, without_mark, without_runs, without_states}

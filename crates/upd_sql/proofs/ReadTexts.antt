@@ -69,23 +69,9 @@ pub all_counts : Reads sql.ALL_COUNTS.now 14 [] four []
 unfolding understood everything
 all_counts = record { names = _; is = refl; plain = (refl, refl); unlisted = refl }
 
-abbrev pub runs_order : List (Term × Key)
-runs_order = (col 1 1, ascending Binary) ∷ (col 1 2, ascending Binary) ∷ []
-
-pub all_runs : Reads sql.ALL_RUNS.now 10 [] six runs_order
-unfolding understood everything
-all_runs = record { names = _; is = refl; plain = (refl, refl); unlisted = refl }
-
 pub runs_in_turn : Reads sql.RUNS_IN_TURN.now 10 [] six row_order
 unfolding understood everything
 runs_in_turn = record { names = _; is = refl; plain = (refl, refl); unlisted = refl }
-
-abbrev pub marks_order : List (Term × Key)
-marks_order = (col 1 1, ascending Binary) ∷ []
-
-pub all_marks : Reads sql.ALL_MARKS.now 16 [] two marks_order
-unfolding understood everything
-all_marks = record { names = _; is = refl; plain = (refl, refl); unlisted = refl }
 
 pub marks_in_turn : Reads sql.MARKS_IN_TURN.now 16 [] two row_order
 unfolding understood everything

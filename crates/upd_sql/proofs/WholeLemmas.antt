@@ -4,7 +4,7 @@ use Rattle.upd_sql.proofs.Common.{◌==◌, ◌&&◌, nat_le, Bool, false, Entry
 use Rattle.upd_sql.proofs.Common.{◌∙◌, arith, pos, IsErr, IfOk, list_all, nat_tests, take_more, get_or-map, length-map, Null, Row, Key, sort_cmp, Term}
 use Rattle.upd_sql.proofs.Common.{eval_all, Error, Database, State, Shown, map-map, Target, Set, SetIn, Deck, MarkRow, Rows, RunView, TargetRow}
 use Rattle.sqlite.specs.Listing.{understood}
-use Rattle.upd_sql.proofs.Common.{state_pair, count_pair, rows_at, is_lone, clean_before, steps_then, library_schema, AreInOrder, by_key, by_site}
+use Rattle.upd_sql.proofs.Common.{state_pair, count_pair, rows_at, is_lone, clean_before, steps_then, library_schema, AreInOrder}
 use Rattle.upd_sql.proofs.Common.{in_any_order, num, ident_row, card_row, entry_row, target_row, run_row, state_row, mark_row, stored, HoldsTables}
 use Rattle.std.proofs.Common.{◌||◌, cond, int_cmp, nat_cmp, nat_lt, Ordering}
 use Rattle.std.specs.Ordering.{ordering_then}
@@ -19,8 +19,8 @@ use Rattle.upd_sql.specs.Commits.{IsAnswered, Looks}
 use Rattle.upd_sql.specs.Encoded.{kept_state, kept_count}
 use Rattle.upd_sql.proofs.Listed.{lists, ordered_as}
 use Rattle.upd_sql.proofs.Bare.{is_bare}
-use Rattle.upd_sql.proofs.ReadTexts.{Reads, two, three, four, five, six, runs_order, marks_order}
-use Rattle.upd_sql.proofs.ReadTexts.{all_idents, all_cards, all_targets, all_states, all_counts, all_runs, all_marks, runs_in_turn, marks_in_turn}
+use Rattle.upd_sql.proofs.ReadTexts.{Reads, two, three, four, five, six}
+use Rattle.upd_sql.proofs.ReadTexts.{all_idents, all_cards, all_targets, all_states, all_counts, runs_in_turn, marks_in_turn}
 use Rattle.upd_sql.proofs.Typed.{reads_exactly}
 use Rattle.upd_sql.specs.declared.texts.TheConstants as sql
 
@@ -55,20 +55,6 @@ count_whole c = by c.0
     by (Set a) = refl
     by (SetIn a d) = refl
     by (Deck d) = refl
-
--- ---- the orders of the texts
-
-pub nat_order : (m n : ℕ) → value_cmp (num m) (num n) ≡ nat_cmp m n
-nat_order m n = value_cmp-Int (pos m) (pos n) ∙ by
-  where
-    by : int_cmp (pos m) (pos n) ≡ nat_cmp m n
-    by = grind (arith, ints, nat_tests)
-
-runs_up : (a b : RunView) → sort_cmp runs_order ([] ∷ (Null ∷ run_row a) ∷ []) ([] ∷ (Null ∷ run_row b) ∷ []) ≡ by_key a b
-runs_up a b = ap₂ ordering_then (value_cmp-Text a.site b.site) (then-Equal _ ∙ nat_order a.number b.number)
-
-marks_up : (a b : MarkRow) → sort_cmp marks_order ([] ∷ (Null ∷ mark_row a) ∷ []) ([] ∷ (Null ∷ mark_row b) ∷ []) ≡ by_site a b
-marks_up a b = then-Equal _ ∙ value_cmp-Text a.site b.site
 
 -- ---- what each text answers
 
@@ -116,9 +102,6 @@ module _ (old new : State) (it : Rows) (h : HoldsTables it old.now) (rows : List
       _ four [] in_any_order all_counts refl refl
       count_whole (λ x y. refl)
 
-  pub runs_listed : Answers sql.ALL_RUNS.now run_row by_key it.runs
-  runs_listed = whole 5 10 refl run_row it.runs refl _ six runs_order by_key all_runs refl refl (λ x. refl) runs_up
-
   pub runs_turned : Shown sql.RUNS_IN_TURN.now [] old new rows → rows ≡ map run_row it.runs
   runs_turned shown =
       reads_exactly 5 10 refl run_row (stored it) it.runs refl _ [] old new rows shown h [] six runs_in_turn refl refl (λ _. true) (λ x. refl) (λ x. refl)
@@ -128,9 +111,6 @@ module _ (old new : State) (it : Rows) (h : HoldsTables it old.now) (rows : List
   marks_turned shown =
       reads_exactly 8 16 refl mark_row (stored it) it.settled refl _ [] old new rows shown h [] two marks_in_turn refl refl (λ _. true) (λ x. refl) (λ x. refl)
       ∙ ap (map mark_row) (all_pass it.settled)
-
-  pub marks_listed : Answers sql.ALL_MARKS.now mark_row by_site it.settled
-  marks_listed = whole 8 16 refl mark_row it.settled refl _ two marks_order by_site all_marks refl refl (λ x. refl) marks_up
 
 -- ---- one look after another
 

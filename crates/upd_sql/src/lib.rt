@@ -32,4 +32,4 @@ pub use stored::{
     stored_active, stored_library_rows, stored_mark, stored_run, stored_runs, stored_states,
 };
 pub use texts::{CREATE_COUNTS, CREATE_SETTLED, CREATE_STATES};
-pub use whole::{ActiveRows, library_rows_in, marks_in, rows_of, runs_in, runs_in_turn};
+pub use whole::{ActiveRows, library_rows_in, rows_of, runs_in_turn};

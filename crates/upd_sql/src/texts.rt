@@ -112,13 +112,8 @@ pub(crate) const ALL_STATES: &str = "SELECT ident, num, active FROM states";
 
 pub(crate) const ALL_COUNTS: &str = "SELECT kind, target, deck, n FROM counts";
 
-pub(crate) const ALL_RUNS: &str =
-    "SELECT site, num, mode, body, accepted, reply FROM runs ORDER BY site, num";
-
 pub(crate) const RUNS_IN_TURN: &str =
     "SELECT site, num, mode, body, accepted, reply FROM runs ORDER BY rowid";
-
-pub(crate) const ALL_MARKS: &str = "SELECT site, mark FROM settled ORDER BY site";
 
 pub(crate) const MARKS_IN_TURN: &str = "SELECT site, mark FROM settled ORDER BY rowid";
 

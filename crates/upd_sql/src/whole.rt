@@ -1,4 +1,4 @@
-//! Whole tables, each read by one query.
+//! Whole tables, each read by one query, but the entries in four parts.
 ghost use Rattle.std.specs.Prelude.{◌≡◌, ◌==◌, List, [], filter, map, nat_le};
 ghost use Rattle.sqlite_value.specs.Order.{Row as SqlRow};
 ghost use Rattle.sqlite.specs.Given.{IsPlain};
@@ -12,7 +12,7 @@ ghost use Rattle.upd_row_store.specs.Assembling.{AreRowsOf};
 ghost use Rattle.upd_row_store.specs.Tables.{AreByKey, AreRead, ListsRuns, count_pair, state_pair};
 ghost use Rattle.upd_sql.specs.Commits.{Inside, IsAnswered, Looks};
 ghost use Rattle.upd_sql.specs.LibraryTables.{HoldsTables};
-ghost use Rattle.upd_sql.specs.Listed.{AreInOrder, by_key, by_site, in_any_order};
+ghost use Rattle.upd_sql.specs.Listed.{AreInOrder, in_any_order};
 ghost use Rattle.upd_sql.specs.Part.{AreActiveRows};
 ghost use Rattle.upd_sql.specs.Schema.{library_schema};
 
@@ -146,13 +146,6 @@ fn counts_in<S: Alter>(
     all_of(tx, alloc, texts::ALL_COUNTS, &[])
 }
 
-/// The stored runs by site and number, inside a transaction.
-pub fn runs_in<S: Alter>(tx: &mut Transaction<'_, S>, alloc: Global) -> Result<Vec<RunRow>, Error>
-    ensures { Inside (state S.Store) (Looks (λ it found. AreInOrder by_key it.runs found.items)) tx.old.conn tx.new.conn result }
-{
-    all_of(tx, alloc, texts::ALL_RUNS, &[])
-}
-
 /// The stored runs in the order in which they were stored, inside a transaction.
 pub fn runs_in_turn<S: Alter>(
     tx: &mut Transaction<'_, S>,
@@ -162,13 +155,6 @@ pub fn runs_in_turn<S: Alter>(
 {
     let rows = rows_of(tx, texts::RUNS_IN_TURN, &[])?;
     each(alloc, &rows)
-}
-
-/// The settled marks by site, inside a transaction.
-pub fn marks_in<S: Alter>(tx: &mut Transaction<'_, S>, alloc: Global) -> Result<Vec<MarkRow>, Error>
-    ensures { Inside (state S.Store) (Looks (λ it found. AreInOrder by_site it.settled found.items)) tx.old.conn tx.new.conn result }
-{
-    all_of(tx, alloc, texts::ALL_MARKS, &[])
 }
 
 /// The settled marks in the order of their table, inside a transaction.

@@ -76,8 +76,9 @@ impl<S: Start> SqlStore<FileStore<FileFrom<S>>> {
 /// SQLite's cksumvfs: a changed byte is found by each open. Where the file has any table the fault is Store, at the
 /// version in the file, 0 where it has none, and no byte of it is changed. An empty file, or one in which this call was
 /// cut off, counts as no file. Where there is no file and the log beside the path has frames, where that log can't be
-/// opened, where the file is another user's, where another user could put commits into the library (`exposure`), and
-/// where no such file can be made, the fault is Store at 0, and no byte changes. Out of memory is NoMemory at 0.
+/// opened, where a journal is beside the path that only SQLite can play back, where the path is that of another file's log or
+/// journal, where the file is another user's, where another user could put commits into the library (`exposure`), and where
+/// no such file can be made, the fault is Store at 0, and no byte changes. Out of memory is NoMemory at 0.
 pub fn create<S: Start>(rt: &HostRuntime, path: &str, start: S) -> Result<FileLibrary<S>, Fault>
     ensures shows { IfOk result (λ s. HasCleanDisk (file_state s.conn)
         → IsTrue (file_state s.conn).is_open × ShowsTables no_rows (file_state s.conn).committed) }
@@ -96,8 +97,8 @@ pub fn create<S: Start>(rt: &HostRuntime, path: &str, start: S) -> Result<FileLi
     }
 }
 
-/// Store at 0 where a new file would have its log written over frames of another, or could have none, or where a journal is
-/// beside it.
+/// Store at 0 where a new file would have its log written over frames of another, or could have none, where a journal is
+/// beside it, or where it would be another file's log or journal.
 fn spare_log(rt: &HostRuntime, path: &str) -> Result<(), Fault>
     ensures unopened { IfErr result IsUnopened }
 {
@@ -206,7 +207,7 @@ pub fn is_no_path(path: &str) -> bool {
 }
 
 /// Out of memory is NoMemory, any other error of a file a failure of the store.
-fn file_fault(error: io::Error) -> Fault
+pub(crate) fn file_fault(error: io::Error) -> Fault
     ensures lost { IsLost result }
 {
     match error.kind() {

@@ -18,7 +18,7 @@ mod tree_tallies;
 mod version;
 
 pub use exposure::{is_foreign_file, is_foreign_log, is_open_folder};
-pub use log_file::{has_frames, is_closed_log, is_log_alone};
+pub use log_file::{has_frames, is_beside_file, is_closed_log, is_log_alone};
 pub use one_open::{Opened, Purpose, open_once, opened};
 pub use sql_store::SqlStore;
 pub use store_faults::{fault_of, no_memory, refused, store_at};

@@ -49,9 +49,29 @@ pub fn is_closed_log(rt: &HostRuntime, path: &str) -> io::Result<bool> {
     }
 }
 
-/// Whether no file may be made at a path for what is beside it: a log that is alone or can't be opened, or a journal.
+/// Whether no file may be made at a path for what is beside it: a log that is alone or can't be opened, a journal, or a file
+/// whose log or journal it would be.
 pub(crate) fn has_in_the_way(rt: &HostRuntime, path: &str) -> io::Result<bool> {
-    Ok(is_log_alone(rt, path)? || is_closed_log(rt, path)? || has_journal(rt, path)?)
+    Ok(is_log_alone(rt, path)?
+        || is_closed_log(rt, path)?
+        || has_journal(rt, path)?
+        || is_beside_file(rt, path)?)
+}
+
+/// Whether a path is that of the log, of the journal or of the shared memory of a file that is there. Who opens that file
+/// takes what is at the path for it, and writes over it.
+pub fn is_beside_file(rt: &HostRuntime, path: &str) -> io::Result<bool> {
+    let file = path
+        .strip_suffix("-wal")
+        .or(path.strip_suffix("-journal"))
+        .or(path.strip_suffix("-shm"));
+    match file {
+        Some(file) => {
+            let found = unless_missing(fs::metadata(rt, file))?;
+            Ok(found.is_some_and(|found| found.is_file()))
+        }
+        None => Ok(false),
+    }
 }
 
 /// Whether a journal is beside a file that only SQLite can play back, or something else has its name. An empty one, and one

@@ -9,13 +9,14 @@ ghost use Rattle.sqlite_trees.specs.View.{IsClean};
 ghost use Rattle.upd_sql.specs.Schema.{library_schema};
 ghost use Rattle.sqlite_wal.specs.Files.{image_at};
 ghost use Rattle.upd_store.specs.Faults.{IsUnopened};
+ghost use Rattle.upd_text.specs.declared.fault.FaultKind.TheVariants.{NoMemory};
 ghost use Rattle.upd_store.specs.TreeReads.{IsLibrary};
 ghost use Rattle.upd_sql.specs.Commits.{ShowsIn};
 ghost use Rattle.upd_records.specs.Rows.{Rows};
 ghost use Rattle.upd_store.specs.OneOpen.{IsBelow, IsKept, IsServed, IsTaken, MayFind};
 ghost use Rattle.upd_store.specs.TreeOpening.{FindsTrees};
 
-use crate::file::{adopted, begins_as_database, refuse_exposed};
+use crate::file::{adopted, begins_as_database, file_fault, refuse_exposed};
 use crate::sql_store::SqlStore;
 use crate::store_faults::{fault_of, no_memory, store_at};
 use crate::tree_library::serves;
@@ -27,7 +28,7 @@ use sqlite_pager::{Options, Pager};
 use sqlite_std_file::OpenError;
 use sqlite_store::Unopened;
 use sqlite_trees::error::StoreError;
-use sqlite_wal::{probe_first_page, probe_page_size};
+use sqlite_wal::{Error, probe_first_page, probe_page_size};
 use std::alloc::{AllocError, AllocFailed, Global};
 use std::hash::{BuildHasher, RandomState};
 use std::io;
@@ -56,7 +57,9 @@ fn is_below(purpose: Purpose<'_>) -> bool
 }
 
 /// Half the pages that are usual are kept in memory: 4 MB, which lie beside the rows of a whole library.
-fn options(seed: u64) -> Options {
+fn options(seed: u64) -> Options
+    ensures { (result.cache_pages ≡ 1000) × (result.seed ≡ seed) }
+{
     Options {
         cache_pages: 1_000,
         ..Options::new(seed)
@@ -66,33 +69,36 @@ fn options(seed: u64) -> Options {
 /// A library that was opened: over its trees, or through SQL.
 pub type Opened<S> = Result<TreeStore<S>, SqlStore<S>>;
 
-/// The store over two files, under the schema that they list. Where they aren't opened so they are given back.
+/// The store over two files, under the schema that they list. Where they aren't opened so they are given back, with whether
+/// memory was short.
 fn stored<D: Disk + Drop>(
     alloc: Global,
     files: Files<D>,
     options: Options,
-) -> Result<FileStore<D>, Files<D>>
+) -> Result<FileStore<D>, (Files<D>, bool)>
     requires log { IsTrue (D.Disk.is_usable files.log) }
     requires db { IsTrue (D.Disk.is_usable files.db) }
     ensures { IfOk result (λ store. IsClean (view store) → MayFind (image_of D.Disk files) (view store)) }
 {
     let mut files = files;
-    let Ok(found) = probe_page_size(&mut files) else {
-        return Err(files);
+    let found = match probe_page_size(&mut files) {
+        Ok(found) => found,
+        Err(error) => return Err((files, error.kind() == io::ErrorKind::OutOfMemory)),
     };
     let Some(size) = found else {
-        return Err(files);
+        return Err((files, false));
     };
-    let Ok(head) = probe_first_page(alloc, &mut files, size) else {
-        return Err(files);
+    let head = match probe_first_page(alloc, &mut files, size) {
+        Ok(head) => head,
+        Err(error) => return Err((files, matches!(error, Error::OutOfMemory))),
     };
     let pager = match Pager::new(alloc, files, size, options) {
         Ok(pager) => pager,
-        Err(AllocFailed { value }) => return Err(value),
+        Err(AllocFailed { value }) => return Err((value, true)),
     };
     let unopened = match Unopened::with_sums(alloc, pager, &[], head.1 == WITH_SUMS) {
         Ok(unopened) => unopened,
-        Err(AllocFailed { value }) => return Err(value.close()),
+        Err(AllocFailed { value }) => return Err((value.close(), true)),
     };
     attached(alloc, unopened)
 }
@@ -169,10 +175,19 @@ fn through_sql<D: Disk + Drop>(
     }
 }
 
-/// Why files aren't opened, as SQL's open says it.
-fn why_not<D: Disk + Drop>(alloc: Global, files: Files<D>, options: Options) -> Fault
-    ensures { IsUnopened result }
+/// Why files aren't opened: memory was short, or what SQL's open says of them.
+fn why_not<D: Disk + Drop>(
+    alloc: Global,
+    files: Files<D>,
+    is_short: bool,
+    options: Options,
+) -> Fault
+    ensures unopened { IsUnopened result }
+    ensures short { IsTrue is_short → result.kind ≡ NoMemory }
 {
+    if is_short {
+        return no_memory(AllocError);
+    }
     if !files.log.may_be_used() || !files.db.may_be_used() {
         return store_at(0);
     }
@@ -211,7 +226,7 @@ pub fn opened<D: Disk + Drop>(
     }
     match stored(alloc, files, options(seed)) {
         Ok(store) => over_either(alloc, store, purpose),
-        Err(left) => Err(why_not(alloc, left, options(seed))),
+        Err((left, is_short)) => Err(why_not(alloc, left, is_short, options(seed))),
     }
 }
 
@@ -221,7 +236,7 @@ fn files_fault(error: OpenError) -> Fault
 {
     match error {
         OpenError::OutOfMemory => no_memory(AllocError),
-        OpenError::Io(error) if error.kind() == io::ErrorKind::OutOfMemory => no_memory(AllocError),
+        OpenError::Io(error) => file_fault(error),
         _ => store_at(0),
     }
 }

@@ -11,7 +11,7 @@ ghost use Rattle.upd_store.specs.TreeOpening.{IsAttached};
 
 use sqlite::{FileStore, Files};
 use sqlite_disk::Disk;
-use sqlite_store::Unopened;
+use sqlite_store::{OpenError, Unopened};
 use sqlite_trees::store::Shape;
 use sqlite_value::keys::Order;
 use sqlite_value::order::is_same;
@@ -20,30 +20,31 @@ use sqlite_value::value::ValueRef;
 use std::alloc::{AllocError, Global};
 
 /// Checks the files, under the schema that they list: each index in plain order, and all else a table. Whether that is
-/// their schema is seen in the store. Where that fails the files are given back.
+/// their schema is seen in the store. Where that fails the files are given back, with whether memory was short.
 pub(crate) fn attached<D: Disk + Drop>(
     alloc: Global,
     files: Unopened<D>,
-) -> Result<FileStore<D>, Files<D>>
+) -> Result<FileStore<D>, (Files<D>, bool)>
     requires { AreUsable files }
     ensures { IfOk result (λ store. IsClean (view store) → IsAttached files store) }
 {
     let mut files = files;
-    let Ok(listed) = files.read_catalog() else {
-        return Err(files.close());
+    let listed = match files.read_catalog() {
+        Ok(listed) => listed,
+        Err(error) => return Err((files.close(), matches!(error, OpenError::OutOfMemory))),
     };
     let Ok((rows, layouts)) = laid_out(alloc, &listed) else {
-        return Err(files.close());
+        return Err((files.close(), true));
     };
     let Ok(is_listed) = files.list_schema(&rows, &layouts) else {
-        return Err(files.close());
+        return Err((files.close(), true));
     };
     if !is_listed {
-        return Err(files.close());
+        return Err((files.close(), false));
     }
     match files.open_numbered() {
         Ok(store) => Ok(store),
-        Err((_, left)) => Err(left.close()),
+        Err((error, left)) => Err((left.close(), matches!(error, OpenError::OutOfMemory))),
     }
 }
 

@@ -1,7 +1,7 @@
 -- What the proofs of this crate share: the words of its definitions and of those below, and the lemmas that more than one proof cites.
 pub use Rattle.std.proofs.Common.{IsErrAnd, None, Some, below_more, false}
 pub use Rattle.upd_compile.proofs.Common.{FileView, Global, Vec}
-pub use Rattle.upd_core.proofs.Common.{[], ℕ, ◌++◌, ◌+◌, ◌<◌, ◌∙◌, ◌∷◌, ◌≡◌, ◌≤◌, AllByRecursion, List, Option, ap, append_assoc, arith, common_steps}
+pub use Rattle.upd_core.proofs.Common.{[], ℕ, ◌++◌, ◌+◌, ◌<◌, ◌∙◌, ◌∷◌, ◌≡◌, ◌≤◌, List, Option, ap, append_assoc, arith, common_steps}
 pub use Rattle.upd_core.proofs.Common.{flat_map, get_or, length, map, refl, rules, subst, sym, take}
 pub use Rattle.upd_correct.specs.declared.refusal.Refusal.{Refusal}
 pub use Rattle.upd_deck.proofs.Common.{◌⊎◌, Err, Ok, Result, take_all}

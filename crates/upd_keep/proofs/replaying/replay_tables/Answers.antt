@@ -1,5 +1,5 @@
-use Rattle.upd_keep.proofs.Common.{◌≡◌, ℕ, ◌<◌, List, [], ◌∷◌, inl, inr, length, Option, None, refl, sym, ap, subst, ◌∙◌, arith, rules, nat_tests, IsOkUnless, fault_at}
-use Rattle.upd_keep.proofs.Common.{NoMemory, no_rows, Rows, journal_with}
+use Rattle.upd_keep.proofs.Common.{◌≡◌, ℕ, ◌<◌, List, [], ◌∷◌, inl, inr, length, Option, None, refl, sym, ap, subst, ◌∙◌, arith, rules, nat_tests}
+use Rattle.upd_keep.proofs.Common.{IsOkUnless, fault_at, NoMemory, no_rows, Rows, journal_with}
 use Rattle.upd_records.specs.Rows.{RunView}
 use Rattle.upd_desk.specs.Holding.{Holds}
 use Rattle.upd_keep.specs.Replaying.{AreReplayed, DiffersFirst, HaveReplies, replayed_line}

@@ -12,8 +12,8 @@ returns g c listed cmp plain means =
     record {
       same_reference = said.same_reference;
       does =
-          looked (λ it found. AreInOrder cmp (listed it) found.items) (λ rows. rows.items) c.args.sql.now (bound c.args.params.now) old new c.in_ok-rows.rows c.each.result plain
-          said.does (λ it h shown. on_value c.each.result c.each.ensures.found
+          looked (λ it found. AreInOrder cmp (listed it) found.items) (λ rows. rows.items) c.args.sql.now (bound c.args.params.now) old new
+          c.in_ok-rows.rows c.each.result plain said.does (λ it h shown. on_value c.each.result c.each.ensures.found
           (λ found says. let from = means it h c.in_ok-rows.rows.items shown in
           subst (AreInOrder cmp (listed it)) (sym (says from.0 (c.deref.ensures.value ∙ from.1))) from.2));
     }

@@ -84,4 +84,5 @@ returns-in_err-check_frame-2-clause-refused c =
 pub returns-clause-admitted : goal.returns-clause-admitted
 returns-clause-admitted c =
     subst IsOk (sym (c.loop-run.invariant.checked
-    ∙ at_drop_all (checks_left c.args.site.now c.loop-run.next c.args.mode.now) c.args.runs.now c.loop-run.run-index (omega (arith, c.loop-run-test.false)))) refl
+    ∙ at_drop_all (checks_left c.args.site.now c.loop-run.next c.args.mode.now) c.args.runs.now c.loop-run.run-index
+    (omega (arith, c.loop-run-test.false)))) refl
