@@ -31,6 +31,11 @@ abbrev pub IsBelow : Purpose → Type 0
 IsBelow Writing = ⊥
 IsBelow _ = Unit {0}
 
+-- how many pages of a file are kept in memory: fewer for one run, which keeps the rows of the whole library as well
+abbrev pub pages_kept : Purpose → ℕ
+pages_kept (Run site number) = 1000
+pages_kept _ = 2000
+
 -- A store that was just opened. If its trees list the library's schema, they are the database that the files held.
 pub record MayFind (image : Image) (v : View) : Type 0 where
   pub fresh : IsFresh v

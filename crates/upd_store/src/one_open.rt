@@ -13,7 +13,7 @@ ghost use Rattle.upd_text.specs.declared.fault.FaultKind.TheVariants.{NoMemory};
 ghost use Rattle.upd_store.specs.TreeReads.{IsLibrary};
 ghost use Rattle.upd_sql.specs.Commits.{ShowsIn};
 ghost use Rattle.upd_records.specs.Rows.{Rows};
-ghost use Rattle.upd_store.specs.OneOpen.{IsBelow, IsKept, IsServed, IsTaken, MayFind};
+ghost use Rattle.upd_store.specs.OneOpen.{IsBelow, IsKept, IsServed, IsTaken, MayFind, pages_kept};
 ghost use Rattle.upd_store.specs.TreeOpening.{FindsTrees};
 
 use crate::file::{adopted, begins_as_database, file_fault, refuse_exposed};
@@ -56,13 +56,17 @@ fn is_below(purpose: Purpose<'_>) -> bool
     !matches!(purpose, Purpose::Writing)
 }
 
-/// Half the pages that are usual are kept in memory: 4 MB, which lie beside the rows of a whole library.
-fn options(seed: u64) -> Options
-    ensures { (result.cache_pages ≡ 1000) × (result.seed ≡ seed) }
+/// For one run half the pages that are usual are kept in memory: 4 MB, which lie beside the rows of a whole library.
+fn options(seed: u64, purpose: Purpose<'_>) -> Options
+    ensures { (result.cache_pages ≡ pages_kept purpose.entry) × (result.seed ≡ seed) }
 {
-    Options {
-        cache_pages: 1_000,
-        ..Options::new(seed)
+    let usual = Options::new(seed);
+    match purpose {
+        Purpose::Run { .. } => Options {
+            cache_pages: 1_000,
+            ..usual
+        },
+        Purpose::Reading | Purpose::Writing => usual,
     }
 }
 
@@ -218,15 +222,16 @@ pub fn opened<D: Disk + Drop>(
         → (it : Rows) → ShowsIn (view s.store).committed it → IsServed purpose.entry it)) }
     ensures unopened { IfErr result IsUnopened }
 {
+    let options = options(seed, purpose);
     if !is_below(purpose) {
-        return match through_sql(alloc, files, options(seed)) {
+        return match through_sql(alloc, files, options) {
             Ok(library) => Ok(Err(library)),
             Err(fault) => Err(fault),
         };
     }
-    match stored(alloc, files, options(seed)) {
+    match stored(alloc, files, options) {
         Ok(store) => over_either(alloc, store, purpose),
-        Err((left, is_short)) => Err(why_not(alloc, left, is_short, options(seed))),
+        Err((left, is_short)) => Err(why_not(alloc, left, is_short, options)),
     }
 }
 
