@@ -52,10 +52,12 @@ pub fn is_closed_log(rt: &HostRuntime, path: &str) -> io::Result<bool> {
 /// Whether no file may be made at a path for what is beside it: a log that is alone or can't be opened, a journal, or a file
 /// whose log or journal it would be.
 pub(crate) fn has_in_the_way(rt: &HostRuntime, path: &str) -> io::Result<bool> {
-    Ok(is_log_alone(rt, path)?
-        || is_closed_log(rt, path)?
-        || has_journal(rt, path)?
-        || is_beside_file(rt, path)?)
+    Ok(
+        is_log_alone(rt, path)?
+            || is_closed_log(rt, path)?
+            || has_journal(rt, path)?
+            || is_beside_file(rt, path)?,
+    )
 }
 
 /// Whether a path is that of the log, of the journal or of the shared memory of a file that is there. Who opens that file
