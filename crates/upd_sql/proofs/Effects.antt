@@ -1,7 +1,7 @@
 -- What each text that writes makes of the tables.
 use Rattle.upd_sql.proofs.Common.{◌≡◌, ℕ, ◌+◌, ◌-◌, ◌<◌, ◌^◌, ◌==◌, nat_le, pos, negsuc, Bool, true, false, not, ◌&&◌, if◌then◌else◌, List, [], ◌∷◌, ◌++◌}
 use Rattle.upd_sql.proofs.Common.{map, filter, codes, Ok, refl, sym, ap, ap₂, ◌∙◌, arith, IsTrue, length, ◌/◌, bytes_eq, AllByRecursion, Null, Text, Row, lit}
-use Rattle.upd_sql.proofs.Common.{col, eval_all, value_rows, State, Executes, CardRef, Ident, Target, Set, SetIn, Deck, is_same, CardRow, EntryRow, TargetRow}
+use Rattle.upd_sql.proofs.Common.{col, eval_all, value_rows, State, Executes, Ident, Target, Set, SetIn, Deck, is_same, CardRow, EntryRow, TargetRow}
 use Rattle.upd_sql.proofs.Common.{RunView, StateRow, CountRow, MarkRow, Rows, same_ref, is_settled, is_mark_of, ident_columns, card_columns, entry_columns}
 use Rattle.upd_sql.proofs.Common.{target_columns, run_columns, state_columns, count_columns, mark_columns, num, target_code, ident_row, card_row, entry_row}
 use Rattle.upd_sql.proofs.Common.{target_row, run_row, state_row, count_row, mark_row, stored, HoldsTables, all_weaker, cast_all, moved_row, restated}

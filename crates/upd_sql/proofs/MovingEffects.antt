@@ -1,8 +1,8 @@
 -- What the texts of moves at many places find in the tables, and make of them.
-use Rattle.upd_sql.proofs.Common.{◌≡◌, ℕ, ◌+◌, ◌-◌, ◌<◌, ◌^◌, ◌==◌, nat_le, pos, negsuc, Bool, true, false, ◌&&◌, if◌then◌else◌, List, [], ◌∷◌}
-use Rattle.upd_sql.proofs.Common.{map, filter, codes, Ok, refl, sym, ap, ap₂, ◌∙◌, arith, IsTrue, bytes_eq, Int, Null, Text, Row, Eq, Binary}
+use Rattle.upd_sql.proofs.Common.{◌≡◌, ℕ, ◌+◌, ◌-◌, ◌<◌, ◌^◌, nat_le, pos, negsuc, Bool, true, false, ◌&&◌, if◌then◌else◌, List, [], ◌∷◌}
+use Rattle.upd_sql.proofs.Common.{map, filter, codes, Ok, refl, ap, ap₂, ◌∙◌, arith, IsTrue, bytes_eq, Int, Null, Text, Row}
 use Rattle.upd_sql.proofs.Common.{eval_all, State, Executes, Shown, CardRow, Rows, card_columns, num, card_row, stored, HoldsTables, all_weaker, cast_all}
-use Rattle.upd_sql.proofs.Common.{moved_row, eq_nat, eq_text, two_tests, three_tests}
+use Rattle.upd_sql.proofs.Common.{eq_nat, eq_text, two_tests, three_tests}
 use Rattle.std.proofs.Common.{◌≤◌, ℤ, ◌+ℤ◌, nat_lt}
 use Rattle.std.proofs.lemmas.Bool.Decides.{nat_tests}
 use Rattle.std.proofs.lemmas.Int.{ints}

@@ -1,5 +1,5 @@
 -- Rows of cards that go, range after range.
-use Rattle.upd_sql.proofs.Common.{◌≡◌, ℕ, ◌+◌, ◌<◌, Bool, true, false, not, List, [], ◌∷◌, ◌++◌, map, filter, take, length, get_or, Result, Ok, Err, refl, sym}
+use Rattle.upd_sql.proofs.Common.{◌≡◌, Bool, true, List, [], ◌∷◌, ◌++◌, Result, Ok, Err, refl, sym}
 use Rattle.upd_sql.proofs.Common.{ap, subst}
 use Rattle.upd_sql.proofs.Common.{◌∙◌, IsErr, Error, State, CardRef, Rows, HoldsTables, AnyTables, Makes, makes_then, makes_as, without_states}
 use Rattle.std.proofs.Common.{◌||◌}

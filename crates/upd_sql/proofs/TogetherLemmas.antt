@@ -1,15 +1,15 @@
 -- Shifts one after another do to the tables what moves do, where they do so to each row.
-use Rattle.upd_sql.proofs.Common.{◌≡◌, ℕ, ◌+◌, ◌<◌, Bool, true, false, List, [], ◌∷◌, ◌++◌, map, filter, take, length, get_or, Result, Ok, Err, None, Some}
-use Rattle.upd_sql.proofs.Common.{refl, sym, ap, subst, ◌∙◌, AllByRecursion, all_weaker, map-map, take_more, Error, State, CardRow, Rows, done, done_all}
-use Rattle.upd_sql.proofs.Common.{ChangeView, Fits, MovesListed, AllCanBeDone, HoldsTables, Makes, makes_then, makes_as, clean_before, steps_then, BTreeMap}
-use Rattle.std.proofs.Common.{◌≤◌, Option, cond, IfSome}
+use Rattle.upd_sql.proofs.Common.{◌≡◌, ℕ, true, false, List, [], ◌∷◌, ◌++◌, map, Result, Ok, Err, None, Some}
+use Rattle.upd_sql.proofs.Common.{refl, sym, ap, subst, ◌∙◌, AllByRecursion, all_weaker, map-map, Error, State, Rows, done, done_all}
+use Rattle.upd_sql.proofs.Common.{ChangeView, AllCanBeDone, HoldsTables, Makes, makes_then, makes_as, clean_before, steps_then, BTreeMap}
+use Rattle.std.proofs.Common.{Option, IfSome}
 use Rattle.sqlite_keyed.proofs.ListLemmas.{all_map}
 use Rattle.upd_records.specs.Changes.{moved_row}
 use Rattle.upd_records.specs.Fits.{AllFit}
 use Rattle.upd_row_store.specs.Movable.{AllMoveListed}
 use Rattle.upd_shifts.specs.declared.moves.Move.{Move}
 use Rattle.upd_shifts.specs.declared.shift.Shift.{Shift}
-use Rattle.upd_shifts.specs.Shifts.{CanShift, CanShiftAll, IsRight, as_change, is_behind, moved_all, shifted_all, shifted_row, with_shifted}
+use Rattle.upd_shifts.specs.Shifts.{CanShift, CanShiftAll, as_change, moved_all, shifted_all, shifted_row, with_shifted}
 use Rattle.upd_sql.specs.Commits.{Looks}
 use Rattle.upd_sql.specs.Moving.{AllCanShift, AllRight, MakesIf, with_all_shifted}
 

@@ -1,16 +1,12 @@
 -- Reading whole tables: the rows of an answer are the table's, in any order, and each is read as the record that it stores.
 use Rattle.upd_sql.proofs.Common.{◌≡◌, ℕ, ◌+◌, ◌<◌, true, List, [], ◌∷◌, ◌++◌, map, filter, take, length, get_or, Result, Ok, Err, refl, sym, ap, ap₂, subst}
 use Rattle.upd_sql.proofs.Common.{◌==◌, ◌&&◌, nat_le, Bool, false, EntryRow, holds, filter_same}
-use Rattle.upd_sql.proofs.Common.{◌∙◌, arith, pos, IsErr, IfOk, list_all, nat_tests, take_more, get_or-map, length-map, Null, Row, Key, sort_cmp, Term}
-use Rattle.upd_sql.proofs.Common.{eval_all, Error, Database, State, Shown, map-map, Target, Set, SetIn, Deck, MarkRow, Rows, RunView, TargetRow}
+use Rattle.upd_sql.proofs.Common.{◌∙◌, arith, IfOk, list_all, nat_tests, take_more, get_or-map, length-map, Null, Row, Key, sort_cmp, Term}
+use Rattle.upd_sql.proofs.Common.{eval_all, Error, Database, State, Shown, map-map, Target, Set, SetIn, Deck, Rows, TargetRow}
 use Rattle.sqlite.specs.Listing.{understood}
 use Rattle.upd_sql.proofs.Common.{state_pair, count_pair, rows_at, is_lone, clean_before, steps_then, library_schema, AreInOrder}
 use Rattle.upd_sql.proofs.Common.{in_any_order, num, ident_row, card_row, entry_row, target_row, run_row, state_row, mark_row, stored, HoldsTables}
-use Rattle.std.proofs.Common.{◌||◌, cond, int_cmp, nat_cmp, nat_lt, Ordering}
-use Rattle.std.specs.Ordering.{ordering_then}
-use Rattle.std.proofs.lemmas.Int.{ints}
-use Rattle.sqlite_value.specs.Order.{value_cmp}
-use Rattle.sqlite_value.proofs.OrderLemmas.{then-Equal, value_cmp-Int, value_cmp-Text}
+use Rattle.std.proofs.Common.{◌||◌, cond, nat_lt, Ordering}
 use Rattle.std.specs.List.{count_by}
 use Rattle.sqlite.specs.Given.{IsPlain}
 use Rattle.upd_records.specs.Rows.{IsSame}

@@ -1,5 +1,5 @@
 -- Moves of a deck's cards that are made at once.
-use Rattle.std.specs.Prelude.{◌≡◌, ℕ, List, [], ◌∷◌, map, IfOk, Bool, true, false, Result, OnOk, IsTrue}
+use Rattle.std.specs.Prelude.{ℕ, List, [], ◌∷◌, IfOk, Bool, true, false, Result, IsTrue}
 use Rattle.std.specs.List.{AllByRecursion}
 use Rattle.sqlite.specs.declared.error.Error.{Error}
 use Rattle.sqlite.specs.State.{State, HasCleanDisk}

@@ -6,7 +6,7 @@ use Rattle.upd_text.specs.declared.card_ref.CardRef.{CardRef}
 use Rattle.upd_core.specs.declared.target.Target.{Target}
 use Rattle.upd_core.specs.Targets.{is_same}
 use Rattle.upd_records.specs.Changes.{moved_row, restated}
-use Rattle.upd_records.specs.Rows.{Rows, same_ref}
+use Rattle.upd_records.specs.Rows.{Rows}
 use Rattle.upd_row_store.specs.Tables.{is_settled, is_mark_of}
 
 -- without the rows of the cards that go, but with their statuses

@@ -1,4 +1,4 @@
-use Rattle.upd_sql.proofs.Common.{◌≡◌, map, List, Ok, sym, subst, ◌∙◌, state, Makes, HoldsTables, Rows, change_view, done_all}
+use Rattle.upd_sql.proofs.Common.{◌≡◌, map, List, Ok, subst, ◌∙◌, state, Makes, HoldsTables, change_view, done_all}
 use Rattle.std.proofs.Common.{IfSome}
 use Rattle.upd_shifts.specs.declared.plans.DeckPlan.{DeckPlan}
 use Rattle.upd_sql.specs.ManyDecks.{AllCanPlan, DoAsPlanned, with_plans}

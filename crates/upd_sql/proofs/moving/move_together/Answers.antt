@@ -1,4 +1,4 @@
-use Rattle.upd_sql.proofs.Common.{◌≡◌, List, Ok, sym, subst, ◌∙◌, state, Makes, HoldsTables, Rows}
+use Rattle.upd_sql.proofs.Common.{List, Ok, subst, ◌∙◌, state, Makes, HoldsTables}
 use Rattle.std.proofs.Common.{IfSome}
 use Rattle.upd_shifts.specs.declared.shift.Shift.{Shift}
 use Rattle.upd_sql.specs.Moving.{AllCanShift, AllRight, with_all_shifted}

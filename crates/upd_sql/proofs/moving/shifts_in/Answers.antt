@@ -1,5 +1,5 @@
-use Rattle.upd_sql.proofs.Common.{◌≡◌, filter, sym, subst, ◌∙◌, state, AllByRecursion, List, CardRow, Rows}
-use Rattle.std.proofs.Common.{IfSome, ◌≤◌}
+use Rattle.upd_sql.proofs.Common.{◌≡◌, filter, subst, ◌∙◌, state, AllByRecursion, List, CardRow}
+use Rattle.std.proofs.Common.{IfSome}
 use Rattle.upd_shifts.specs.Shifts.{IsRight, is_behind}
 use Rattle.upd_sql.specs.Moving.{AllRight}
 use Rattle.upd_shifts.proofs.PlanLemmas.{all_right}

@@ -1,4 +1,4 @@
-use Rattle.upd_sql.proofs.Common.{refl, rules, state, same_ref, with_state, without_states, makes_as, HoldsTables, AnyTables}
+use Rattle.upd_sql.proofs.Common.{rules, state, same_ref, with_state, without_states, makes_as, HoldsTables, AnyTables}
 use Rattle.upd_shifts.specs.Ranges.{in_range}
 use Rattle.upd_sql.proofs.RemovingLemmas.{states_alike}
 use Rattle.upd_sql.proofs.Typed.{makes_both}
