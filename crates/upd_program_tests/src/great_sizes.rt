@@ -64,11 +64,11 @@ fn eighty_findings_are_written_whole(rt: HostRuntime) -> Result<(), Fail> {
 }
 
 #[test]
-fn a_library_of_10000_cards_is_examined(rt: HostRuntime) -> Result<(), Fail> {
-    const LINE: &str = "sound: decks 5, cards 10000, runs 5, replies 480";
+fn a_library_of_4000_cards_is_examined(rt: HostRuntime) -> Result<(), Fail> {
+    const LINE: &str = "sound: decks 2, cards 4000, runs 2, replies 192";
     let file = library(&rt, "examined")?;
     let mut spool = String::new(rt.alloc());
-    for number in 2..7 {
+    for number in 2..4 {
         add_deck(&mut spool, number)?;
     }
     is_sent(&rt, &file, spool.as_str())?;

@@ -10,7 +10,7 @@ use upd_testkit::check::holds;
 pub type Fused = Fuse<Memory>;
 
 /// The bytes of the database file and of its log.
-#[derive(Drop)]
+#[derive(Drop, PartialEq)]
 pub struct Bytes {
     log: Vec<u8>,
     db: Vec<u8>,
@@ -116,7 +116,7 @@ pub fn work_in<D: Disk + Drop, W: Work>(
 /// What a call of the disk that fails may cut off.
 pub trait Cut {
     /// What was done before the cut.
-    type Part: Drop;
+    type Part: Drop + PartialEq;
 
     /// Does it with files: what was done, if a call failed, and the files.
     fn cut(
@@ -129,28 +129,59 @@ pub trait Cut {
     fn left_holds(&self, alloc: Global, part: &Self::Part, left: &Bytes) -> Result<(), Fail>;
 }
 
-/// A kill of the process and a crash of the machine after these calls: whether a call failed.
-fn crashes<C: Cut>(alloc: Global, it: &C, bytes: &Bytes, calls: (u64, u64)) -> Result<bool, Fail> {
-    let (part, files) = it.cut(alloc, bytes.files(alloc, calls)?)?;
-    let Some(part) = part else {
-        return Ok(false);
-    };
-    it.left_holds(alloc, &part, &Bytes::written(alloc, &files)?)?;
-    it.left_holds(alloc, &part, &Bytes::synced(alloc, files)?)?;
-    Ok(true)
+/// What a cut leaves.
+#[derive(Drop, PartialEq)]
+struct Left<P> {
+    part: P,
+    killed: Bytes,
+    crashed: Bytes,
 }
 
-/// A crash at each call of the log, or of the database file: the number of them.
+/// A kill of the process and a crash of the machine after these calls: what they leave, if a call failed.
+fn left_after<C: Cut>(
+    alloc: Global,
+    it: &C,
+    files: Files<Fused>,
+) -> Result<Option<Left<C::Part>>, Fail> {
+    let (part, files) = it.cut(alloc, files)?;
+    let Some(part) = part else {
+        return Ok(None);
+    };
+    let killed = Bytes::written(alloc, &files)?;
+    let crashed = Bytes::synced(alloc, files)?;
+    Ok(Some(Left {
+        part,
+        killed,
+        crashed,
+    }))
+}
+
+/// What is found after a cut is right, after a kill and after a crash.
+fn both_hold<C: Cut>(alloc: Global, it: &C, left: &Left<C::Part>) -> Result<(), Fail> {
+    it.left_holds(alloc, &left.part, &left.killed)?;
+    if left.crashed == left.killed {
+        return Ok(());
+    }
+    it.left_holds(alloc, &left.part, &left.crashed)
+}
+
+/// A crash at each call of the log, or of the database file: the number of them. One that leaves the same as the one before it,
+/// as a failed read does, is the same to whoever opens the files.
 fn all_crashes<C: Cut>(alloc: Global, it: &C, bytes: &Bytes, of_log: bool) -> Result<u64, Fail> {
+    let mut before = None;
     for at in 0..10_000 {
         let calls = if of_log {
             (at, u64::MAX)
         } else {
             (u64::MAX, at)
         };
-        if !crashes(alloc, it, bytes, calls)? {
+        let Some(left) = left_after(alloc, it, bytes.files(alloc, calls)?)? else {
             return Ok(at);
+        };
+        if before.as_ref() != Some(&left) {
+            both_hold(alloc, it, &left)?;
         }
+        before = Some(left);
     }
     Err("no end of crashes".into())
 }

@@ -4,7 +4,10 @@ use crate::long_runs::Part;
 use std::alloc::Global;
 use std::test::Fail;
 use upd_compile::Mode;
-use upd_core::Library;
+use upd_core::{Ident, Kind, Library};
+use upd_records::LibraryRows;
+use upd_row_store::assembled;
+use upd_testkit::applying::name;
 
 const ALL_IDENTS: Asked = &[
     (Ask::Long(&[Part::Idents(0, 1999)]), "accepted"),
@@ -28,19 +31,35 @@ fn holds_4096_idents(rt: HostRuntime) -> Result<(), Fail> {
     check_with_idents(&mut Library::new(rt.alloc()), ASKED)
 }
 
-/// All idents 16 times, purged each time, and one more.
-fn introduce_idents(library: &mut Library) -> Result<(), Fail> {
-    const PURGE: Asked = &[(Ask::Run("*PURGE N0,*\n"), "accepted")];
-    const LAST: Asked = &[(Ask::Run("*IDENT LAST\n"), "Full (19) at 1")];
-    for _ in 0..16 {
-        check_with_idents(library, PURGE)?;
+/// A library that has introduced 65,535 idents, all of which are purged, from its rows.
+fn with_purged_idents(alloc: Global) -> Result<Library, Fail> {
+    let mut idents = Vec::new(alloc);
+    for age in 1..=65_535 {
+        idents.push(Ident {
+            name: name("N")?,
+            age,
+            kind: Kind::Set,
+            noprop: false,
+            held: false,
+        })?;
     }
-    check_on(library, LAST)
+    let rows = LibraryRows {
+        idents,
+        cards: Vec::new(alloc),
+        entries: Vec::new(alloc),
+        targets: Vec::new(alloc),
+    };
+    Ok(assembled(alloc, rows)?)
 }
 
+/// A purged ident counts among those that were introduced.
 #[test]
 fn introduces_65536_idents(rt: HostRuntime) -> Result<(), Fail> {
-    introduce_idents(&mut Library::new(rt.alloc()))
+    const ASKED: Asked = &[
+        (Ask::Run("*IDENT LAST\n"), "accepted"),
+        (Ask::Run("*IDENT OVER\n"), "Full (19) at 1"),
+    ];
+    check_on(&mut with_purged_idents(rt.alloc())?, ASKED)
 }
 
 fn take_2000_cards(library: &mut Library, alloc: Global, n: u32) -> Result<(), Fail> {
