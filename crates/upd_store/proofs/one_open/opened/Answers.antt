@@ -35,3 +35,10 @@ returns-in-Ok-stored-clause-found g c = ok_then c.over_either.result c.over_eith
 pub returns-in-Ok-stored-clause-ours : goal.returns-in-Ok-stored-clause-ours
 returns-in-Ok-stored-clause-ours g c = ok_then c.over_either.result c.over_either.ensures.above
     (λ l h. err_then l h (λ s taken clean is_open. taken.ours clean is_open))
+
+pub over_either-requires : goal.over_either-requires
+over_either-requires g c clean = (c.in-Ok-stored.ensures clean).fresh
+
+pub returns-in-Ok-stored-clause-only : goal.returns-in-Ok-stored-clause-only
+returns-in-Ok-stored-clause-only g c =
+    ok_then c.over_either.result c.over_either.ensures.below (λ l h. ok_then l h (λ s _. c.is_below.ensures c.if-not-is_below.false))
