@@ -162,6 +162,33 @@ fn no_library_is_made_in_the_place_of_a_log(rt: HostRuntime) -> Result<(), Fail>
     remove(&rt, &alone)
 }
 
+/// A library in the place of a log is no log, and stays. Rule 10.48.3.
+#[test]
+fn a_library_in_the_place_of_a_log_stays(rt: HostRuntime) -> Result<(), Fail> {
+    const REFUSED: &[Step<'_>] = &[
+        Step::Answers("init", &[], "", NO_LIBRARY),
+        Step::AllAnswer(NO_LIBRARY),
+    ];
+    let file = fresh(&rt, "taken")?;
+    let other = format!(in rt.alloc(); "{file}-wal")?;
+    take_all(
+        &rt,
+        &other,
+        &[MADE, Step::Accepts("1", "quick", "*DECK A\n")],
+    )?;
+    let before = fs::read(&rt, other.as_str())?;
+    fs::write(&rt, file.as_str(), &before)?;
+    stays(&rt, &file, REFUSED)?;
+    has_bytes(&rt, &other, &before)?;
+    remove(&rt, &other)?;
+    take_all(
+        &rt,
+        &file,
+        &[Step::Writes("idents", &[], "1 A deck held\n")],
+    )?;
+    remove(&rt, &file)
+}
+
 /// A log that was left beside a new file is nobody else's to read.
 #[test]
 fn a_left_log_is_closed_to_others(rt: HostRuntime) -> Result<(), Fail> {

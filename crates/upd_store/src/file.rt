@@ -21,7 +21,7 @@ ghost use Rattle.upd_store.specs.Faults.{IsUnopened};
 ghost use Rattle.upd_store.specs.OpenedAgain.{Closes, OpensAgain};
 
 use crate::exposure::{is_exposed, is_foreign_file};
-use crate::log_file::{has_in_the_way, log_path};
+use crate::log_file::{has_database_as_log, has_in_the_way, log_path};
 use crate::sql_store::SqlStore;
 use crate::store_faults::{fault_of, no_memory, store_at};
 use sqlite::{Connection, FileFrom, FileStore, Files, Start};
@@ -51,7 +51,7 @@ impl<S: Start> SqlStore<FileStore<FileFrom<S>>> {
     /// Where the file holds no library the fault is Store, at the version in the file, 0 where it has none. No byte of
     /// it is changed then, and a file that does not exist is not made. The fault is Store at 0, too, where the file may not
     /// be read and written, where another program has it open, where another user could put commits into it (`exposure`),
-    /// and where it is damaged. Out of memory is NoMemory at 0.
+    /// where a database is in the place of its log, and where it is damaged. Out of memory is NoMemory at 0.
     pub fn open(
         rt: &HostRuntime,
         path: &str,
@@ -109,15 +109,19 @@ fn spare_log(rt: &HostRuntime, path: &str) -> Result<(), Fault>
     }
 }
 
-/// Store at 0 where a path isn't a file's name, and where another user could put commits into the library there, or that
-/// can't be found out.
+/// Store at 0 where a path isn't a file's name, where another user could put commits into the library there, or that can't be
+/// found out, and where a database is in the place of its log.
 pub(crate) fn refuse_exposed(rt: &HostRuntime, path: &str) -> Result<(), Fault>
     ensures lost { IfErr result IsLost }
 {
     if is_no_path(path) {
         return Err(store_at(0));
     }
-    match is_exposed(rt, path) {
+    let refused = match is_exposed(rt, path) {
+        Ok(false) => has_database_as_log(rt, path),
+        found => found,
+    };
+    match refused {
         Ok(false) => Ok(()),
         Ok(true) => Err(store_at(0)),
         Err(error) => Err(file_fault(error)),

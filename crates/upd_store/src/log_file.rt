@@ -4,6 +4,7 @@ ghost use Rattle.std.specs.Prelude.{◌≡◌, IfOk};
 ghost use Rattle.std.specs.String.{string_bytes};
 ghost use Rattle.upd_store.specs.Exposure.{log_of};
 
+use crate::file::begins_as_database;
 use std::alloc::{AllocError, Global};
 use std::fs::OpenOptions;
 use std::io::{ErrorKind, Read};
@@ -46,6 +47,15 @@ pub fn is_closed_log(rt: &HostRuntime, path: &str) -> io::Result<bool> {
         Err(error) if is_missing(error.kind()) => Ok(false),
         Err(error) if error.kind() == ErrorKind::OutOfMemory => Err(error),
         Err(_) => Ok(true),
+    }
+}
+
+/// Whether what is in the place of the log beside a file is a database of SQLite: opening the file would empty it.
+pub(crate) fn has_database_as_log(rt: &HostRuntime, path: &str) -> io::Result<bool> {
+    let log = log_path(rt, path)?;
+    match begins_as_database(rt, log.as_str()) {
+        Err(error) if error.kind() == ErrorKind::OutOfMemory => Err(error),
+        found => Ok(found.unwrap_or(false)),
     }
 }
 
