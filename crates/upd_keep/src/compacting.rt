@@ -11,13 +11,13 @@ use crate::copying::backup;
 use crate::other_tables::are_same_tables;
 use crate::stored_tables::{StoredTables, stored_tables};
 use crate::versions::only_version;
-use sqlite::{Alter, Connection, Error, FileStore, Options, Row, Transaction};
+use sqlite::{Alter, Connection, Error, ErrorCode, FileStore, Options, Row, Transaction};
 use sqlite_disk::{Disk, Files, Memory};
-use std::alloc::Global;
+use std::alloc::{AllocError, Global};
 use upd_sql::{ILLEGIBLE, rows_of};
 use upd_sqlite::{Rising, begin, run};
 use upd_store::{SqlStore, fault_of, no_memory, store_at};
-use upd_text::Fault;
+use upd_text::{Fault, FaultKind};
 
 /// The tables but `meta`, what their rows are copied by, and the places of their columns. Rows that come by key fill their pages;
 /// runs stay in the order in which they were stored.
@@ -63,7 +63,27 @@ fn put_rows<S: Rising>(
     tx.commit()
 }
 
-/// Puts the rows of a library into an empty one. DatabaseCorrupt where `meta` hasn't just one row.
+/// The fault of a library in memory: its disk fails only where memory ends.
+fn of_memory(fault: Fault) -> Fault
+    ensures { IsUnopened fault → IsUnopened result }
+{
+    match fault.kind {
+        FaultKind::Store => no_memory(AllocError),
+        _ => fault,
+    }
+}
+
+/// The error of a database in memory, likewise.
+fn in_memory(error: Error) -> Error {
+    match error {
+        Error::SqliteFailure(ErrorCode::SystemIoFailure | ErrorCode::DiskFull) => {
+            Error::SqliteFailure(ErrorCode::OutOfMemory)
+        }
+        _ => error,
+    }
+}
+
+/// Puts the rows of a library into an empty one in memory. DatabaseCorrupt where `meta` hasn't just one row.
 fn copy_rows<S: Rising, T: Rising>(
     alloc: Global,
     from: &mut Connection<S>,
@@ -78,7 +98,7 @@ fn copy_rows<S: Rising, T: Rising>(
         let read = format!(in alloc; "SELECT * FROM {table} ORDER BY {key}")?;
         let write = format!(in alloc; "INSERT INTO {table} VALUES ({places})")?;
         let rows = rows_of(&mut tx, read.as_str(), &[])?;
-        put_rows(to, alloc, write.as_str(), &rows)?;
+        put_rows(to, alloc, write.as_str(), &rows).map_err(in_memory)?;
     }
     Ok(())
 }
@@ -118,7 +138,7 @@ fn made_in<S: Rising, T: Rising + Drop>(
 {
     let mut made = match SqlStore::init(blank) {
         Ok(store) => store.into_connection(),
-        Err((fault, _)) => return Err(fault),
+        Err((fault, _)) => return Err(of_memory(fault)),
     };
     match copy_rows(alloc, from, &mut made) {
         Ok(()) => compared(alloc, tables, made),
