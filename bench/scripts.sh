@@ -7,8 +7,10 @@
 # library by put.sh, on other lines, on the same one and at the same time, and one twice at once; one adds files, removes one, changes 2,500 lines, and is
 # killed while it sends. edit.sh edits a deck, a line that another site has changed, and files of a tree. An edit of several runs meets what came before its
 # first run, between two of them and after one that got no answer; and idents are purged, or come again, that an edit has seen. Decks go out of use and are
-# purged. LIST and the tree have odd names, a disk is full, and a file becomes a folder. site.sh sends a run, and once finds its folder in use. What comes out
-# must be the tree that was put in, and LIST the same under all. Exit status: 0 all is as it should be, 1 something is not, 3 the executable is not there.
+# purged. LIST and the tree have odd names, a disk is full, a file becomes a folder, LIST has a path twice, and two scripts work with one LIST. site.sh sends a
+# run, and once finds its folder in use. What comes out must be the tree that was put in, and LIST the same under all.
+#
+# Exit status: 0 all is as it should be, 1 something is not, 3 the executable is not there
 set -u
 export LC_ALL=C
 root=$(cd "$(dirname -- "$0")/.." && pwd)
@@ -486,6 +488,66 @@ try_folders() {
     must diff -r now plains
 }
 
+# An editor of this text.
+editor() {
+    { echo '#!/bin/sh' && cat; } >editor && chmod +x editor
+}
+
+# What two scripts do with one LIST, a LIST that has a path twice, and texts that are too long for one run.
+try_lists() {
+    mkdir listed && printf 'one\ntwo\n' >listed/a.c && printf 'b\n' >listed/b.c
+    expect 0 "$upd" init i.db
+    # shellcheck disable=SC2016 # these words are of another shell
+    expect 3 sh -c 'ls listed/a.c | sh "$0" --list LIST.I i.db LYON 1 >/dev/full' "$root/examples/bring.sh"
+    expect 0 answering 'listed/a.c\nlisted/b.c\n' script bring --list LIST.I i.db LYON 1 && cp out spool
+    expect 0 "$upd" spool i.db <spool
+    { cat LIST.I && sed -n '/^deck B$/,$p' LIST.I | sed s,/b.c,/a.c,; } >twice
+    expect 1 script tree --list twice i.db twice.tree
+    must grep -qx 'listed/a.c' err
+    must grep -qx 'deck B' err
+    must [ ! -e twice.tree ]
+    printf 'deck A\npath x\ndeck B\npath x/y\ndeck B\npath z\n' >inside
+    expect 1 script tree i.db inside.tree <inside
+    must grep -qx 'tree.sh: x/y, of B, would be in a folder that is a file' err
+    must cmp listed/b.c inside.tree/z
+    exec 8>LIST.I.lock && flock -n 8
+    expect 3 script tree --list LIST.I i.db locked
+    exec 8>&-
+    expect 0 script tree --list LIST.I i.db edited
+    editor <<'END'
+printf 'one\ntwo  \n' >edited/listed/a.c
+sh "$EXAMPLES/put.sh" --yes i.db LYON LIST.I edited
+sed -i s/one/ONE/ "$1"
+END
+    export EXAMPLES="$root/examples"
+    expect 3 env EDITOR=./editor sh "$EXAMPLES/edit.sh" --list LIST.I -m '' i.db LYON A
+    must grep -q 'has other notes' err
+    must grep -qx 'blanks 2:2' LIST.I
+    expect 1 env EDITOR=rm sh -c 'echo no | sh "$0" --list LIST.I -m "" i.db LYON A' "$EXAMPLES/edit.sh"
+    must grep -q 'a.c is gone$' err
+    editor <<'END'
+printf '*IDENT OUT\n*YANKDECK B\n' | "$UPD" run i.db OSLO 1 quick
+printf 'three   \n' >>"$1"
+END
+    expect 1 env EDITOR=./editor sh -c 'printf "yes\nno\n" | sh "$0" --list LIST.I -m "" i.db LYON A B' "$EXAMPLES/edit.sh"
+    must grep -q '^blanks .*3:3' LIST.I
+    awk 'BEGIN { print "*DECK BIG"; for (i = 1; i < 1900; i++) print "big " i; print "*DECK C\nc" }' >run
+    expect 0 "$upd" run i.db OSLO 2 quick <run
+    editor <<'END'
+{ echo '*DECK BIG' && awk 'BEGIN { for (i = 1; i < 2500; i++) print "row " i; printf "last" }'; } >"$1"
+sed -i s/c/d/ "$2"
+END
+    expect 0 env EDITOR=./editor sh -c 'yes | sh "$0" -m "" i.db LYON BIG C' "$EXAMPLES/edit.sh"
+    must [ "$("$upd" text i.db BIG | tail -n 1)" = last ]
+    must [ "$("$upd" text i.db C | tail -n 1)" = d ]
+    mkdir disk && mount -t tmpfs -o size=16k none disk 2>err || return 0 # only root can
+    awk 'BEGIN { print "*DECK E"; for (i = 1; i < 1900; i++) print "a line of this length" }' >run
+    expect 0 "$upd" run i.db OSLO 3 quick <run
+    printf 'deck E\npath e.c\n' >LIST.E
+    expect 3 script tree i.db disk/tree <LIST.E
+    umount disk
+}
+
 try_site() {
     mkdir -p site/outbox && printf '*DECK S\nONE\n' >site/outbox/a.quick
     expect 0 script site site BERN l.db
@@ -516,6 +578,7 @@ try_tools() {
     try_names
     try_full
     try_folders
+    try_lists
     try_site
     PATH=$old_path
     [ -e "$work/LIST" ] || cp LIST.LYON "$work/LIST"

@@ -87,6 +87,7 @@ if [ -n "$message" ]; then printf '*/ %s\n' "$message"; fi >"$work/message" || e
 : >"$spool" && : >"$added" && : >"$work/list" && : >"$work/report" || exit 3
 "$upd" init "$work/empty" || exit 3
 "$upd" idents -- "$library" >"$work/idents" || exit 3
+[ -z "$list" ] || lock_list
 if [ -n "$list" ] && [ -e "$list" ]; then awk 1 <"$list"; fi >"$work/old" || exit 3 # a last line without an end gets it
 {
     printf '%s\n' '*' 'YANK$$$'
@@ -253,7 +254,8 @@ while IFS= read -r path && IFS= read -r file; do
     }
 done <"$added"
 if [ -n "$list" ]; then
-    sed "s|^since\$|since $(tail -n 1 "$taken")|" "$work/list" >"$work/new" && cat "$work/old" "$work/new" >"$list.new" && mv "$list.new" "$list" || exit 3
+    sed "s|^since\$|since $(tail -n 1 "$taken")|" "$work/list" >"$work/new" && cat "$work/old" "$work/new" >"$list.new" || exit 3
 fi
 cat "$spool" || exit 3
+[ -z "$list" ] || mv "$list.new" "$list" || exit 3
 cat "$work/report" >&2

@@ -10,7 +10,7 @@
 # them back. It is shown with the warnings of `upd try-at`. If you say yes, it is sent as the next run of SITE, in MODE (quick
 # unless it is given), and the reply is printed. Where others have changed the same lines meanwhile, it is not stored, and you are
 # asked again. What needs more lines than a run has is sent as several, and you are asked again before the first. The run's set is
-# SET, or SITE with the run's number, as LYON7. UPD is the program (`upd` unless it is set).
+# SET, or SITE with the run's number, as LYON7; sets of several runs are named so anyway. UPD is the program (`upd` unless it is set).
 #
 #     -m MESSAGE    what the run is for, at most 77 bytes: its first line, as a comment. Asked for at a terminal.
 #     --list LIST   edits the files of the tree, by their own names, as tree.sh writes them, and sends them as put.sh does: lines are
@@ -66,7 +66,7 @@ shift 2
 check_words
 again='the text has to be taken again'
 
-work=$(mktemp -d) || exit 3
+work=$(mktemp -d) && work=$(cd -- "$work" && pwd) || exit 3
 runs=$work/runs
 
 # Whether a text is not as it was taken.
@@ -131,7 +131,7 @@ correct() {
 }
 
 cut_texts() {
-    cat "$@" >"$work/text" && cut_text "$library" "$work/text" || {
+    for text; do awk 1 <"$text"; done | cat >"$work/text" && cut_text "$library" "$work/text" || {
         cat "$work/faults" >&2
         say "the texts are refused"
         return 1
@@ -230,30 +230,13 @@ list_of() {
     done
 }
 
-# Edits files of the tree, and sends them by put.sh. Their lines in LIST are those after that, but SINCE and sum are those of LIST's tree.
-edit_files() {
-    put=$(script put) && tree=$(script tree) && list_of "$@" >"$work/list" || exit $?
-    export UPD="$upd"
-    sh "$tree" --list "$work/list" "$library" "$work/tree" && cp -Rp "$work/tree" "$work/taken" || exit $?
-    set --
-    set -f # a path is no pattern
-    for path in $(awk '$1 == "deck" && path != "" { print path; path = "" } $1 == "path" { path = path $2 } END { print path }' "$work/list"); do
-        set -- "$@" "$work/tree/$(printf '%b' "$path")"
-    done
-    set +f
-    while :; do
-        open_editor "$@"
-        ask_message
-        lock_list
-        sh "$put" --mode "$mode" -m "$message" -- "$library" "$site" "$work/list" "$work/tree"
-        status=$?
-        [ "$status" -ne 0 ] || break
-        exec 9>&- # nobody waits for an editor
-        [ "$status" -eq 1 ] || exit "$status"
-        agreed "edit again? edit, or no: "
-        [ $? -eq 2 ] || exit 1
-    done
-    sent=1
+# The notes in LIST of what is edited, which put.sh makes anew.
+notes() {
+    while IFS= read -r name; do list_of "$name"; done <"$work/names" | sed '/^since /d; /^sum /d'
+}
+
+# The lines of what was edited become those that put.sh has left, but for SINCE and sum, which are those of LIST's tree.
+note_files() {
     # shellcheck disable=SC2016 # these words are of awk
     change_list -v new="$work/list" '
         BEGIN {
@@ -265,7 +248,54 @@ edit_files() {
         }
         $1 == "deck" { on = $2 in lines; if (on) printf "%s", lines[$2] }
         !on || $1 == "since" || $1 == "sum"'
+}
+
+# Edits files of the tree, and sends them by put.sh.
+edit_files() {
+    put=$(script put) && tree=$(script tree) && list_of "$@" >"$work/list" || exit $?
+    for name; do printf '%s\n' "$name"; done >"$work/names" && notes >"$work/notes" && list_of "$@" >"$work/list" || exit $?
+    export UPD="$upd"
+    sh "$tree" --list "$work/list" "$library" "$work/tree" && cp -Rp "$work/tree" "$work/taken" || exit $?
+    set --
+    set -f # a path is no pattern
+    for path in $(awk '$1 == "deck" && path != "" { print path; path = "" } $1 == "path" { path = path $2 } END { print path }' "$work/list"); do
+        set -- "$@" "$work/tree/$(printf '%b' "$path")"
+    done
+    set +f
+    while :; do
+        open_editor "$@"
+        send_files "$@"
+        status=$?
+        [ "$status" -ne 0 ] || break
+        exec 9>&- # nobody waits for an editor
+        [ "$status" -eq 1 ] || exit "$status"
+        agreed "edit again? edit, or no: "
+        [ $? -eq 2 ] || exit 1
+    done
+    sent=1
     exit 0
+}
+
+# Sends the files as they are, with the status of put.sh, and notes in LIST what is accepted.
+send_files() {
+    for file; do
+        [ -f "$file" ] || {
+            say "${file#"$work/tree/"} is gone"
+            return 1
+        }
+    done
+    ask_message
+    lock_list
+    notes >"$work/noted" || exit 3
+    if ! cmp -s "$work/notes" "$work/noted"; then
+        say "$list has other notes of these files now: start again, and put your changes in"
+        exit 3
+    fi
+    sh "$put" --mode "$mode" -m "$message" -- "$library" "$site" "$work/list" "$work/tree"
+    status=$?
+    [ "$status" -gt 1 ] || note_files
+    notes >"$work/notes" || exit 3
+    return "$status"
 }
 
 if [ -n "$list" ]; then edit_files "$@"; fi

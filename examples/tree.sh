@@ -8,7 +8,7 @@
 # file: bring.sh writes it. UPD is the program (`upd` unless it is set).
 #
 # With --list the tree is one to edit, and put.sh brings in what was changed in it: LIST notes of each deck as of which ident its
-# file is. A tree of `< LIST` is to be read: LIST still belongs to the tree before.
+# file is. A tree of `< LIST` is to be read: LIST still belongs to the tree before. common.sh is in this script's folder.
 #
 # A file gets the active cards of its deck, with calls as they are, and the rights that LIST notes. What bring.sh or put.sh changed
 # in a line is undone as long as the card of that line is active: so a file whose deck was not corrected in another way is the
@@ -39,15 +39,14 @@
 # Exit status:
 #   0  the files are written
 #   1  a deck is not in the library or has no active card, or a path is there already or leads out of FOLDER: each is named, the
-#      others are written
+#      others are written. With --list, LIST has a deck or a path twice: it is named, and nothing is written
 #   2  the words are not FILE FOLDER
 #   3  something else failed, as a command or the disk; what was written may be incomplete
 set -u
 export LC_ALL=C
 
-say() {
-    printf '%s: %s\n' "${0##*/}" "$*" >&2
-}
+for common in "$(dirname -- "$0")/common.sh" "$(dirname -- "$0")/upd-common"; do [ ! -r "$common" ] || break; done
+. "$common" || exit 3
 
 list=''
 if [ "${1-}" = --list ] && [ -n "${2-}" ]; then
@@ -66,6 +65,17 @@ work=$(mktemp -d) || exit 3
 trap 'rm -rf "$work"' EXIT
 trap 'exit 3' HUP INT TERM
 if [ -n "$list" ]; then
+    lock_list
+    twice=$(awk '
+        function end() { if (path != "" && paths[path]++) print path; path = "" }
+        $1 == "deck" { end(); if (decks[$2]++) print "deck " $2 }
+        $1 == "path" { path = path substr($0, 6) }
+        END { end() }' <"$list") || exit 3
+    if [ -n "$twice" ]; then
+        say "$list has these twice, and a file is of one deck: rename one"
+        printf '%b\n' "$twice" >&2
+        exit 1
+    fi
     # All decks as of one moment.
     "$upd" backup -- "$library" "$work/copy" && "$upd" idents -- "$work/copy" >"$work/idents" || exit 3
     library=$work/copy since=$(awk '$NF != "purged" { last = $2 " " $1 } END { print last }' "$work/idents")
@@ -127,6 +137,19 @@ restore() {
         }' "$work/notes" "$work/listing"
 }
 
+# Whether a path in FOLDER leads through what is a file.
+has_file_above() {
+    above=$1
+    while
+        case $above in
+        */*) above=${above%/*} ;;
+        *) return 1 ;;
+        esac
+    do
+        [ ! -e "$folder/$above" ] || [ -d "$folder/$above" ] || return 0
+    done
+}
+
 # Writes the file of a deck.
 write_file() {
     path=$(printf '%b' "$2")
@@ -156,7 +179,17 @@ write_file() {
         result=1
         return
     fi
-    mkdir -p -- "${file%/*}" && restore "$1" >"$file" || exit 3
+    if ! mkdir -p -- "${file%/*}" 2>"$work/fault"; then
+        if has_file_above "$path"; then
+            say "$path, of $1, would be in a folder that is a file"
+            result=1
+            return
+        fi
+        cat "$work/fault" >&2
+        exit 3
+    fi
+    rm -f "$work/whole" # `cat` sees that the disk is full, busybox awk doesn't
+    { restore "$1" && : >"$work/whole"; } | cat >"$file" && [ -e "$work/whole" ] || exit 3
     if [ -n "$list" ]; then
         printf '%s %s %s\n' "$1" "$(sed -n '1!s/^A [^ ]* //p' "$work/listing" | sed 1d | cksum)" "$(cksum <"$file")" >>"$work/sums" || exit 3
     fi
