@@ -3,10 +3,10 @@ ghost use Rattle.std.specs.Prelude.{◌≡◌};
 ghost use Rattle.upd_keep.specs.Situations.{situation_of_bytes, situation_of_kind, situation_of_path, situation_unread};
 
 use crate::situation::Situation;
-use std::fs;
 use std::fs::OpenOptions;
 use std::io::ErrorKind;
 use std::os::unix::fs::MetadataExt;
+use std::{fs, io};
 use upd_store::file::begins_as_database;
 use upd_store::{is_closed_log, is_foreign_file, is_foreign_log, is_log_alone, is_open_folder};
 
@@ -17,7 +17,7 @@ pub(crate) fn situation_at(rt: &HostRuntime, path: &str) -> Option<Situation> {
         kind_of(rt, path),
         is_open_folder(rt, path).unwrap_or(false),
         is_foreign_log(rt, path).unwrap_or(false),
-        is_closed_log(rt, path).unwrap_or(false),
+        is_closed_log(rt, path).unwrap_or(false) || has_database_as_log(rt, path).unwrap_or(false),
     );
     if found.is_some() {
         return found;
@@ -25,6 +25,13 @@ pub(crate) fn situation_at(rt: &HostRuntime, path: &str) -> Option<Situation> {
     let begins = begins_as_database(rt, path).map_err(|error| error.kind());
     let writable = OpenOptions::new().read(true).write(true).open(rt, path);
     of_bytes(begins, writable.is_ok())
+}
+
+/// Whether a database is in the place of the log beside a file. Opening the file would empty it.
+fn has_database_as_log(rt: &HostRuntime, path: &str) -> io::Result<bool> {
+    let file = fs::canonicalize(rt, path)?;
+    let log = format!(in rt.alloc(); "{}-wal", file.as_str())?;
+    begins_as_database(rt, log.as_str())
 }
 
 /// The first situation that a path shows (rule 10.88): `kind` is what is there.

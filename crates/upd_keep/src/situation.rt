@@ -57,7 +57,7 @@ impl Situation {
                 "the log beside it, FILE-wal, is another user's, who may be at work: once that user has run `upd spool FILE </dev/null`, remove it"
             }
             Situation::ClosedLog => {
-                "the log beside it, FILE-wal, can't be opened: let the user read and write it; a folder or a link there must go"
+                "the log beside it, FILE-wal, can't be opened: let the user read and write it; a folder, link or database there must go"
             }
             Situation::Empty => "the file is empty: `upd init` makes a library in it",
             Situation::ForeignEmpty =>

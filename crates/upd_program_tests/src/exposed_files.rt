@@ -156,7 +156,7 @@ const BESIDE_CLOSED_LOG: &[Step<'_>] = &[
 
 const CLOSED: &str =
     "upd: the log beside it, FILE-wal, can't be opened: let the user read and write it; \
-a folder or a link there must go\n";
+a folder, link or database there must go\n";
 
 /// A log that can't be opened is named, and no library is made beside it.
 #[test]

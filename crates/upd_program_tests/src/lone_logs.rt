@@ -179,6 +179,7 @@ fn a_library_in_the_place_of_a_log_stays(rt: HostRuntime) -> Result<(), Fail> {
     let before = fs::read(&rt, other.as_str())?;
     fs::write(&rt, file.as_str(), &before)?;
     stays(&rt, &file, REFUSED)?;
+    stays(&rt, &file, &[Step::Is(Situation::ClosedLog)])?;
     has_bytes(&rt, &other, &before)?;
     remove(&rt, &other)?;
     take_all(
