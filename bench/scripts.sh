@@ -513,10 +513,10 @@ try_lists() {
     exec 8>LIST.I.lock && flock -n 8
     expect 3 script tree --list LIST.I i.db locked
     exec 8>&-
-    expect 0 script tree --list LIST.I i.db edited
+    expect 0 script tree --list LIST.I i.db noted
     editor <<'END'
-printf 'one\ntwo  \n' >edited/listed/a.c
-sh "$EXAMPLES/put.sh" --yes i.db LYON LIST.I edited
+printf 'one\ntwo  \n' >noted/listed/a.c
+sh "$EXAMPLES/put.sh" --yes i.db LYON LIST.I noted
 sed -i s/one/ONE/ "$1"
 END
     export EXAMPLES="$root/examples"
