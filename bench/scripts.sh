@@ -7,8 +7,9 @@
 # library by put.sh, on other lines, on the same one and at the same time, and one twice at once; one adds files, removes one, changes 2,500 lines, and is
 # killed while it sends. edit.sh edits a deck, a line that another site has changed, and files of a tree. An edit of several runs meets what came before its
 # first run, between two of them and after one that got no answer; and idents are purged, or come again, that an edit has seen. Decks go out of use and are
-# purged. LIST and the tree have odd names, a disk is full, a file becomes a folder, LIST has a path twice, and two scripts work with one LIST. site.sh sends a
-# run, and once finds its folder in use. What comes out must be the tree that was put in, and LIST the same under all.
+# purged. LIST and the tree have odd names, a disk is full, a file becomes a folder, LIST has a path twice, and two scripts work with one LIST. A file is
+# saved while put.sh works, and a deck that goes out of use is changed then. site.sh sends a run, and once finds its folder in use. What comes out must be the
+# tree that was put in, and LIST the same under all.
 #
 # Exit status: 0 all is as it should be, 1 something is not, 3 the executable is not there
 set -u
@@ -548,6 +549,227 @@ END
     umount disk
 }
 
+# A library with the decks A and B, and of the sites ROME and LYON a LIST and a tree.
+make_two() {
+    rm -rf p.db p.db-wal two LIST.R LIST.L LIST.L.put r l && mkdir two && oslo_number=0
+    printf 'one\ntwo\nthree\nfour\nfive\nsix\n' >two/a.txt && printf 'b one\nb two\nb three\n' >two/b.txt
+    expect 0 "$upd" init p.db
+    (cd two && printf 'a.txt\nb.txt\n' | script bring --c --list ../LIST.R ../p.db ZERO 1) >spool 2>err
+    expect 0 "$upd" spool p.db <spool
+    expect 0 script tree --list LIST.R p.db r
+    cp LIST.R LIST.L && cp -R r l
+}
+
+# An executable that does something once, before a command.
+meddle() {
+    # shellcheck disable=SC2016 # these words are of the script
+    printf '#!/bin/sh\nif [ "$1" = %s ] && [ ! -e %s ]; then : >%s; %s; fi\nexec %s "$@"\n' "$1" "$(pwd)/meddled" "$(pwd)/meddled" "$2" "$upd" >meddling
+    chmod +x meddling && rm -f meddled
+}
+
+# An executable that sends a run of OSLO, once, before a command.
+meddle_by_oslo() {
+    oslo_number=$((oslo_number + 1))
+    printf "$2" >run.oslo
+    meddle "$1" "$upd run $(pwd)/p.db OSLO $oslo_number quick <$(pwd)/run.oslo >$(pwd)/reply"
+}
+
+# The put.sh of LYON, or with that executable.
+put_lyon() {
+    wanted=$1
+    shift
+    expect "$wanted" script put --yes "$@" p.db LYON LIST.L l
+}
+
+put_meddled() {
+    UPD=$work/$count/meddling put_lyon "$@"
+    must [ -e meddled ]
+}
+
+# Changes a file in place.
+change() {
+    sed "$1" "$2" >new && cat new >"$2"
+}
+
+# What is saved while put.sh works is not lost, and what it sends is what it notes.
+try_saves() {
+    make_two
+    change s/two/TWO/ l/a.txt
+    meddle correct-at 'echo saved >>l/a.txt'
+    put_meddled 0
+    must [ "$(tail -n 1 l/a.txt)" = saved ]
+    put_lyon 0
+    must [ "$("$upd" text p.db A | sed 1d | cksum)" = "$(cksum <l/a.txt)" ]
+    change 's/two/&  /' l/b.txt
+    meddle correct 'echo saved >>l/b.txt'
+    put_meddled 0
+    must [ "$(tail -n 1 l/b.txt)" = saved ]
+    put_lyon 0
+    must grep -qx 'b two  ' l/b.txt
+    must [ "$("$upd" text p.db B | tail -n 1)" = saved ]
+    change s/one/ONE/ l/b.txt
+    meddle run-at 'echo later >>l/b.txt'
+    put_meddled 0
+    must [ ! -e l/b.txt.upd ]
+    oslo '*IDENT O\n*INSERT B.4\nby OSLO\n'
+    meddle run-at 'echo last >>l/b.txt'
+    put_meddled 1
+    must grep -qx 'by OSLO' l/b.txt.upd
+    must [ "$(tail -n 1 l/b.txt)" = last ]
+    mv l/b.txt.upd l/b.txt
+    put_lyon 0
+    oslo '*IDENT P\n*INSERT B.4\nby OSLO, too\n'
+    # shellcheck disable=SC2016 # these words are of the script
+    printf '#!/bin/sh\ncase $2 in */.upd.part) echo last >>l/b.txt ;; esac\nexec %s "$@"\n' "$(command -v chmod)" >bin/chmod && "$(command -v chmod)" +x bin/chmod
+    put_lyon 1
+    rm bin/chmod
+    must grep -qx 'by OSLO, too' l/b.txt.upd
+    must [ "$(tail -n 1 l/b.txt)" = last ]
+    must [ "$(ls -A l | tr '\n' ' ')" = 'a.txt b.txt b.txt.upd ' ]
+    printf '%081d\n' 7 >>r/a.txt
+    sed '/^fit/d' LIST.R >new && cat new >LIST.R
+    expect 1 script put --yes p.db ROME LIST.R r
+    must grep -q '^r/a.txt:7:' err
+}
+
+# A deck that is to go out of use is changed by others: before its run is sent, and right before it is stored.
+try_gone() {
+    make_two
+    rm l/b.txt
+    meddle_by_oslo try-at '*IDENT O\n*INSERT B.3\nby OSLO\n'
+    put_meddled 1 --gone
+    must grep -q 'b.txt: its deck B was changed by others. Run ' err
+    must grep -qx 'deck B' LIST.L
+    must [ "$("$upd" text p.db B | grep -c OSLO)" -eq 1 ]
+    expect 0 script tree --list LIST.L p.db l2
+    meddle_by_oslo run-at '*IDENT P\n*INSERT B.3\nby OSLO\n'
+    put_meddled 1 --gone
+    must grep -q 'with \*YANK LYON' err
+    must grep -qx 'deck B' LIST.L
+    make_two
+    rm l/b.txt
+    put_lyon 0 --gone
+    must [ "$(grep '^deck' LIST.L)" = 'deck A' ]
+}
+
+# A LIST with a path or a deck twice: nothing is sent.
+try_doubles() {
+    make_two
+    change s/two/TWO/ l/a.txt
+    oslo '*DECK A/2\nother\n'
+    printf 'deck A/2\npath .//a.tx\npath t\n' >>LIST.L
+    put_lyon 1
+    must grep -q 'LIST.L has a.txt as the path of two decks, A and A/2: ' err
+    sed 's|^path .//|path |' LIST.R >new && printf 'deck A\npath other.txt\n' | cat LIST.R - >LIST.L
+    put_lyon 1
+    must grep -q 'LIST.L has the deck A twice: ' err
+    must [ "$("$upd" idents p.db | wc -l)" -eq 3 ]
+    must grep -qx TWO l/a.txt
+}
+
+# Bytes that no card has, in a line that another site has sent: they stay in the file, and come back from LIST.
+try_bytes() {
+    make_two
+    echo AAA >>r/a.txt
+    sed 's/b two/&\\/' r/b.txt >new && cat new >r/b.txt
+    expect 0 script put --yes p.db ROME LIST.R r
+    put_lyon 0
+    must [ "$(tail -n 1 l/a.txt)" = AAA ]
+    printf 'zero\r\none\ntwo\nthree\nfour\nfive\nsix\nAAA  ' >l/a.txt
+    cp l/a.txt held_text
+    put_lyon 0
+    must cmp held_text l/a.txt
+    printf 'zero\r\none\ntwo\nthree\nfour\nfive\nsix\nAAA\r\n' >l/a.txt
+    cp l/a.txt held_text
+    put_lyon 0
+    must cmp held_text l/a.txt
+    rm -rf now && expect 0 script tree p.db now <LIST.L
+    must diff -r now l
+    change 's/^AAA/A\f/' l/a.txt
+    cp l/a.txt held_text
+    put_lyon 0
+    must cmp held_text l/a.txt
+    rm -rf now && expect 0 script tree p.db now <LIST.L
+    must diff -r now l
+}
+
+# An accepted run that isn't noted yet, and whose deck others take out of use; and new decks, of which one is refused.
+try_refusals() {
+    make_two
+    echo more >>l/a.txt && echo more >>l/b.txt
+    meddle run-at "$upd \"\$@\"; kill -9 \$PPID; exit 0"
+    put_meddled 137
+    oslo '*IDENT O\n*YANKDECK A\n'
+    put_lyon 1
+    must grep -q 'a.txt stays as it is' err
+    must [ ! -e LIST.L.put ]
+    must [ "$(tail -n 1 l/b.txt)" = more ]
+    put_lyon 1
+    make_two
+    for name in n1 n2 n3; do echo new >"l/$name.txt"; done
+    meddle_by_oslo spool '*DECK N2\nby OSLO\n'
+    expect 0 script put --yes p.db LYON LIST.L l n1.txt
+    meddle_by_oslo spool '*DECK N3\nby OSLO\n'
+    echo more >>l/a.txt
+    UPD=$work/$count/meddling expect 1 script put --yes p.db LYON LIST.L l n2.txt n3.txt
+    must grep -q NameTaken err
+    must [ "$(sed -n 's/^path //p' LIST.L | tr '\n' ' ')" = 'a.txt b.txt n1.txt n2.txt ' ]
+    echo more >>l/n2.txt
+    expect 0 script put --yes p.db LYON LIST.L l n3.txt
+    must [ "$("$upd" text p.db N2 | tail -n 1)" = more ]
+    rm -rf now && expect 0 script tree p.db now <LIST.L
+    must diff -r now l
+}
+
+# Files whose names put.sh gives, too.
+try_asides() {
+    make_two
+    echo upd >l/a.txt.upd && echo part >l/.upd.part
+    expect 0 script put --yes p.db LYON LIST.L l a.txt.upd
+    echo more >>l/a.txt && echo more >>l/a.txt.upd
+    put_lyon 0
+    change s/one/ONE/ l/a.txt
+    oslo '*IDENT O\n*INSERT A.5\nby OSLO\n'
+    meddle run-at 'echo last >>l/a.txt'
+    put_meddled 1
+    must grep -q 'what the library has is in a.txt.upd.upd$' err
+    must grep -qx 'by OSLO' l/a.txt.upd.upd
+    must [ "$(tr '\n' ' ' <l/a.txt.upd)" = 'upd more ' ]
+    put_lyon 1
+    must grep -q '^put.sh: a.txt.upd.upd is there' err
+    mv l/a.txt.upd.upd l/a.txt
+    put_lyon 0
+    must [ "$(cat l/.upd.part)" = part ]
+}
+
+# A LIST that is a link, or that only its owner reads; a path with blanks, written by hand; a folder for what is at work that has
+# an odd name, or no room.
+try_places() {
+    make_two
+    mkdir -p lists t && mv LIST.L lists/list && ln -s lists/list LIST.L && chmod 600 lists/list
+    mv l/b.txt 'l/b  b.txt' && change 's/^path b.txt/path b  b.txt/' lists/list
+    for name in a 'b  b'; do change s/three/THREE/ "l/$name.txt"; done
+    TMPDIR=t put_lyon 0
+    for deck in A B; do must [ "$("$upd" text p.db "$deck" | grep -c THREE)" -eq 1 ]; done
+    must [ -L LIST.L ]
+    must [ "$(ls -l lists/list | cut -c 1-10)" = -rw------- ]
+    echo new >l/new.txt
+    TMPDIR=t expect 0 script put --yes p.db LYON LIST.L l new.txt
+    rm -rf now && expect 0 script tree p.db now <LIST.L
+    must diff -r now l
+    must [ "$(ls t | wc -l)" -eq 0 ]
+    # shellcheck disable=SC2016 # these words are of the script
+    printf '#!/bin/sh\n[ "${1-}" != p.db ] || exit 1\nexec %s "$@"\n' "$(command -v cat)" >bin/cat && chmod +x bin/cat
+    meddle backup 'exit 3'
+    put_meddled 3
+    rm bin/cat
+    must grep -q "can't be written, or has no room" err
+    must [ "$(grep -c examine err)" -eq 0 ]
+    meddle backup 'exit 3'
+    put_meddled 3
+    must grep -q 'examine -- ' err
+}
+
 try_site() {
     mkdir -p site/outbox && printf '*DECK S\nONE\n' >site/outbox/a.quick
     expect 0 script site site BERN l.db
@@ -579,6 +801,13 @@ try_tools() {
     try_full
     try_folders
     try_lists
+    try_saves
+    try_gone
+    try_doubles
+    try_bytes
+    try_refusals
+    try_asides
+    try_places
     try_site
     PATH=$old_path
     [ -e "$work/LIST" ] || cp LIST.LYON "$work/LIST"

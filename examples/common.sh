@@ -18,7 +18,12 @@ quoted() {
     printf "'%s'" "$(printf %s "$1" | sed "s/'/'\\\\''/g")"
 }
 
+# Where the folder of what is at work has no room for a copy of the library, that may be why.
 fail() {
+    if [ -r "$library" ] && ! cat "$library" >"$work/room"; then
+        say "$work can't be written, or has no room: clear it, or name another folder by TMPDIR"
+        exit 3
+    fi
     say "what is wrong with $library? ask: $(quoted "$upd") examine -- $(quoted "$library")"
     exit 3
 }
@@ -63,9 +68,56 @@ lock_list() {
 }
 
 # LIST becomes what awk, with these words, makes of it: all or nothing. `cat` sees that the disk is full, busybox awk doesn't.
+# A link to LIST stays a link, and the rights stay.
 change_list() {
-    rm -f "$work/whole"
-    { awk "$@" <"$list" && : >"$work/whole"; } | cat >"$list.new" && [ -e "$work/whole" ] && mv "$list.new" "$list" || exit 3
+    rm -f "$work/whole" && listed=$list || exit 3
+    [ ! -L "$list" ] || listed=$(readlink -f "$list") || exit 3
+    { awk "$@" <"$list" && : >"$work/whole"; } | cat >"$listed.new" && [ -e "$work/whole" ] \
+        && chmod "$(mode_of "$list")" "$listed.new" && mv -f "$listed.new" "$listed" || exit 3
+}
+
+# The rights of a file.
+mode_of() {
+    ls -lLd -- "$1" | awk '
+        function digit(bits) { return (bits ~ /^r/ ? 4 : 0) + (bits ~ /^.w/ ? 2 : 0) + (bits ~ /[xst]$/ ? 1 : 0) }
+        NR == 1 { print digit(substr($1, 2, 3)) digit(substr($1, 5, 3)) digit(substr($1, 8, 3)) }'
+}
+
+# The decks of LIST: name, path, SINCE and its serial, the sums of lines and file, rights, and how the file was made to fit, one a line.
+list_decks() {
+    awk '
+        function known(word, other) { return word == "" ? other : word }
+        function end() { if (deck != "") print deck, path, known(since, "-"), known(serial, "-"), known(sum, "- -"), known(rights, 644), fit }
+        $1 == "deck" { end(); deck = $2; path = since = serial = sum = rights = fit = "" }
+        $1 == "path" {
+            sub(/^[ \t]*path[ \t]*/, ""); sub(/[ \t]+$/, "")
+            gsub(/ /, "\\0040"); gsub(/\t/, "\\0011")
+            path = path $0
+            next
+        }
+        $1 == "since" { since = $2; serial = $3 }
+        $1 == "sum" { sum = $2 ":" $3 " " $4 ":" $5 }
+        $1 == "mode" { rights = $2 }
+        $1 == "fit" { fit = "--c" }
+        END { end() }' "$list"
+}
+
+# Names each deck and each path that LIST has twice, and then gives 1: a file would get into the deck of another. work/paths gets the paths.
+check_list() {
+    : >"$work/paths" && list_decks | while read -r deck code rest; do
+        printf '%s ' "$deck" && printf '%b\n' "$code"
+    done | list=$list paths=$work/paths awk '
+        {
+            path = substr($0, length($1) + 2)
+            gsub("/(\\./)+", "/", path); gsub("//+", "/", path); sub("^\\./", "", path)
+            print path > ENVIRON["paths"]
+            if ($1 in decks) print ENVIRON["list"] " has the deck " $1 " twice: take one of them out"
+            else if (path in owner) print ENVIRON["list"] " has " path " as the path of two decks, " owner[path] " and " $1 \
+                ": rename one of the files, and its path lines"
+            decks[$1]; owner[path] = $1
+        }' >"$work/doubles" || exit 3
+    while IFS= read -r double; do say "$double"; done <"$work/doubles"
+    [ ! -s "$work/doubles" ]
 }
 
 check_words() {
@@ -163,8 +215,8 @@ cut_text() {
     if [ -n "$later" ]; then printf '*PURGE %s,*\n' "$later" | ask run -- "$work/past" "$site" 999999999 quick >"$work/reply" || exit 3; fi
     name_set 7 '[0-9]*'
     ask correct-parts -- "$work/past" "$set" "$site" "$number" "$mode" <"$2" >"$work/spool" || return 1
-    awk -v folder="$work/frames" '
-        left <= 0 && $1 == "RUN" { left = $5; file = folder "/" $3; next }
+    folder=$work/frames awk '
+        left <= 0 && $1 == "RUN" { left = $5; file = ENVIRON["folder"] "/" $3; next }
         left > 0 { print > file; left -= length($0) + 1; if (left <= 0) close(file) }' "$work/spool" || exit 3
     last=$(ls "$work/frames" | sort -n | tail -n 1)
     sets=$(sed -n 's/^\*IDENT //p' "$work/spool" | tr '\n' ' ')
@@ -185,8 +237,8 @@ look() {
     if [ "$part" = "$last" ]; then names="run $part"; else names="runs $part to $last"; fi
     set=$(sed -n 's/^\*IDENT //p' "$1/run")
     accepted=$(set=$set awk '{ for (i = 1; i <= NF && $i != ENVIRON["set"]; i++) printf "%s%s", (i > 1 ? "," : ""), $i }' "$1/sets")
-    theirs=$(awk -v sets="$accepted" -v purge="$work/purge" '
-        BEGIN { printf "" > purge; for (size = split(sets, set, ","); size > 0; size--) is_own[set[size]] }
+    theirs=$(purge=$work/purge awk -v sets="$accepted" '
+        BEGIN { purge = ENVIRON["purge"]; printf "" > purge; for (size = split(sets, set, ","); size > 0; size--) is_own[set[size]] }
         $NF == "purged" { next }
         $2 in is_own { print "*PURGE " $2 > purge; next }
         { theirs = $2 " " $1 }
@@ -222,25 +274,35 @@ look() {
 
 # Shows the lines of a file that were not shown yet.
 show_new() {
-    awk -v shown="$work/shown" '
-        BEGIN { while ((getline line < shown) > 0) is_shown[line] = 1 }
+    shown=$work/shown awk '
+        BEGIN { while ((getline line < ENVIRON["shown"]) > 0) is_shown[line] = 1 }
         !is_shown[$0]++' "$1" >"$work/unshown" && cat "$work/unshown" >&2 && cat "$work/unshown" >>"$work/shown"
 }
 
 # Shows who switched the cards of a deck that conflicts name, and those beside, and of which file they are.
 show_switched() {
     tr -c 'A-Z0-9+*/()$=.\n-' '\n' <"$work/conflicts" | grep '^[^.]*[^.]\.[1-9][0-9]*$' | sort -u >"$work/named"
-    ask blame -- "$library" "$1" | file=$2 awk -v cards="$work/named" '
-        BEGIN { while ((getline card < cards) > 0) named[card] }
+    ask blame -- "$library" "$1" | file=$2 cards=$work/named awk '
+        BEGIN { while ((getline card < ENVIRON["cards"]) > 0) named[card] }
         { line[NR] = $0; if ($2 in named) near[NR - 1] = near[NR] = near[NR + 1] = 1 }
         END { for (i = 1; i <= NR; i++) if (i in near) print (count++ ? "" : ENVIRON["file"] ":\n") line[i] }' >&2
+}
+
+# What else a script wants of the library before a run is sent: 1 where it is not to be sent. Scripts replace this.
+may_send() {
+    return 0
 }
 
 # Sends a run, with its reply to work/reply. Where it or a later one of its edit meets what others have done, only if `over_changes`
 # gives 0. 1 where it is refused, 2 where it can't be looked at, 3 where it is not to be sent, 4 where no answer came.
 send_run() {
     number=${1##*/}
-    look "$1" || [ $? -eq 1 ] || return 2
+    look "$1"
+    case $? in
+    0) may_send "$1" || return 2 ;;
+    1) ;;
+    *) return 2 ;;
+    esac
     if [ -s "$work/conflicts" ]; then
         show_new "$work/conflicts"
         over_changes || return 3

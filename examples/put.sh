@@ -14,25 +14,29 @@
 # 7 and 8 by LYON71 and LYON72. UPD is the program (`upd` unless it is set).
 #
 # What each run corrects is shown before you are asked. A run is sent by `upd run-at`: where others have changed the same lines
-# meanwhile it is not stored, and you are asked again; of several runs for a file before the first of them is sent.
+# meanwhile it is not stored, and you are asked again; of several runs for a file before the first of them is sent. What you save
+# while put.sh works stays in the file for the next time. Where others have changed that file too, PATH.upd beside it gets what the
+# library has, or PATH.upd.upd where LIST has PATH.upd: put.sh asks you to put both together before it goes on with that file.
 #
 #     --c           all files are made to fit as by bring.sh, also where LIST doesn't say so yet
 #     --gone        takes the decks out of use whose files are gone from FOLDER, or are folders now, and removes them from LIST,
-#                   but for what others have changed meanwhile
+#                   but for what others have changed meanwhile. What they send in the moment between the last look and the run is
+#                   seen once that is accepted: the deck is named, stays in LIST, and comes back by a yank of the run's set
 #     --yes         sends the runs without asking, but where others have changed the same lines
 #     --mode MODE   the mode of the runs: full, normal, or quick, which it is else
 #     -m MESSAGE    what the runs are for, at most 77 bytes: their first line, as a comment. Asked for at a terminal.
 #
-# One put.sh at a time works with LIST, for which LIST.lock is there, by flock. While it sends, LIST.put has the runs. After a
-# kill, or where no answer came, start it again: it sends the same runs first. Where a file needs several runs, and only the
-# first are accepted, LIST.put stays: start it again to send the rest. Where one was refused, or you don't want them, yank the
-# sets before it, which are named, and then remove LIST.put.
+# LIST has each deck and each path once. Where you add lines of another's LIST that has the same path, first rename one of the
+# files, and its `path` lines. One put.sh at a time works with LIST, for which LIST.lock is there, by flock. While it sends,
+# LIST.put has the runs. After a kill, or where no answer came, start it again: it sends the same runs first. Where a file needs
+# several runs, and only the first are accepted, LIST.put stays: start it again to send the rest. Where one was refused, or you
+# don't want them, yank the sets before it, which are named, and then remove LIST.put.
 #
 # Exit status:
 #   0  all runs are accepted, or nothing was changed
 #   1  a run was refused, or not sent as you said no or of a purge, or a file can't be read or a line of it be a card, or a file has
-#      to stay as it is: each is named. What was accepted is in the library and in LIST, or, of a file that needs several runs, in
-#      LIST.put
+#      to stay as it is, or LIST has a deck or a path twice: each is named. What was accepted is in the library and in LIST, or, of
+#      a file that needs several runs, in LIST.put
 #   2  the words can't be read
 #   3  something else failed, as a command or the disk
 set -u
@@ -80,25 +84,13 @@ if [ ! -f "$list" ] || [ ! -d "$folder" ]; then
     exit 3
 fi
 put=$list.put runs=$list.put asked=$asked$yes
-work=$(mktemp -d) || exit 3
+unset CDPATH
+work=$(mktemp -d) && work=$(cd -- "$work" && pwd) || exit 3
 trap 'rm -rf "$work"' EXIT
 trap 'exit 3' HUP INT TERM
+export TMPDIR="${work%/*}" # bring.sh works in FOLDER
 case $upd in /*) ;; */*) upd=$(pwd)/$upd ;; esac # bring.sh works in FOLDER
 export UPD="$upd"
-
-# The decks of LIST: name, path, SINCE and its serial, the sums of lines and file, rights, and how the file was made to fit, one a line.
-list_decks() {
-    awk '
-        function known(word, other) { return word == "" ? other : word }
-        function end() { if (deck != "") print deck, path, known(since, "-"), known(serial, "-"), known(sum, "- -"), known(rights, 644), fit }
-        $1 == "deck" { end(); deck = $2; path = since = serial = sum = rights = fit = "" }
-        $1 == "path" { path = path $2 }
-        $1 == "since" { since = $2; serial = $3 }
-        $1 == "sum" { sum = $2 ":" $3 " " $4 ":" $5 }
-        $1 == "mode" { rights = $2 }
-        $1 == "fit" { fit = "--c" }
-        END { end() }' "$list"
-}
 
 # The lines of a deck in LIST.
 section() {
@@ -107,17 +99,19 @@ section() {
 
 # Replaces the lines of a deck in LIST by those of a file, or removes them.
 replace_section() {
+    export named="$1" with="$2"
     # shellcheck disable=SC2016 # these words are of awk
-    change_list -v deck="$1" -v with="$2" '
-        $1 == "deck" { on = $2 == deck; if (on) while ((getline line < with) > 0) print line }
+    change_list '
+        $1 == "deck" { on = $2 == ENVIRON["named"]; if (on) while ((getline line < ENVIRON["with"]) > 0) print line }
         !on'
 }
 
 # Notes a SINCE for the decks that a file names.
 note_since() {
+    export decks="$1"
     # shellcheck disable=SC2016 # these words are of awk
-    change_list -v since="$2" -v decks="$1" '
-        BEGIN { while ((getline deck < decks) > 0) listed[deck] }
+    change_list -v since="$2" '
+        BEGIN { while ((getline deck < ENVIRON["decks"]) > 0) listed[deck] }
         $1 == "deck" { on = $2 in listed }
         !(on && $1 == "since")
         on && $1 == "deck" { print "since " since }'
@@ -125,11 +119,12 @@ note_since() {
 
 # Notes SINCE and sum for the decks of work/same: those of the tree that is written from the library.
 note_same() {
+    export decks="$work/same" noted_list="$work/now"
     # shellcheck disable=SC2016 # these words are of awk
-    change_list -v decks="$work/same" -v now="$work/now" '
+    change_list '
         BEGIN {
-            while ((getline deck < decks) > 0) listed[deck]
-            while ((getline line < now) > 0) {
+            while ((getline deck < ENVIRON["decks"]) > 0) listed[deck]
+            while ((getline line < ENVIRON["noted_list"]) > 0) {
                 split(line, word, " ")
                 if (word[1] == "deck") deck = word[2]
                 if (word[1] ~ /^(since|sum)$/) noted[deck] = noted[deck] line "\n"
@@ -146,7 +141,8 @@ sum_of() {
 }
 
 # The lines of a deck in LIST once its cards are those of a file: SECTION LISTING HUNKS NOTES, where HUNKS are the differences of the
-# active cards and the file's. A new set gets numbers after all others. Notes of cards that the file doesn't have stay.
+# active cards and the file's. A new set, or one whose cards have new notes, gets numbers after all others. Notes of cards that the
+# file doesn't have stay.
 new_section() {
     awk -v deck="$1" -v since="$2" -v sets="$3" -v mode="$4" '
         function put_note(kind, item) {
@@ -158,6 +154,12 @@ new_section() {
         }
         function number_of(at) {
             return owner[at] == deck ? card[at] - 1 : owner[at] in start ? start[owner[at]] + card[at] - 1 : 0
+        }
+        function begin_set(set,    at) {
+            if (set == deck || set in start) return
+            start[set] = most + 1
+            for (at = 1; at <= cards; at++) if (owner[at] == set && number_of(at) > most) most = number_of(at)
+            head[++heads] = "part " set " " start[set]
         }
         BEGIN { for (size = split(sets, item, " "); size > 0; size--) is_new[item[size]] }
         part == "section" && $1 ~ /^(deck|path|fit)$/ { head[++heads] = $0; next }
@@ -184,12 +186,14 @@ new_section() {
         END {
             while (theirs < actives) place[++ours] = ++theirs
             for (at = 1; at <= cards; at++) if (number_of(at) > most) most = number_of(at)
-            for (at = 1; at <= cards; at++)
-                if (owner[at] in is_new && !(owner[at] in start)) {
-                    start[owner[at]] = most + 1
-                    for (i = at; i <= cards; i++) if (owner[i] == owner[at] && number_of(i) > most) most = number_of(i)
-                    head[++heads] = "part " owner[at] " " start[owner[at]]
+            for (at = 1; at <= cards; at++) if (owner[at] in is_new) begin_set(owner[at])
+            for (i = 1; i <= news; i++) {
+                size = split(new[i], item, " ")
+                for (n = item[1] == "bytes" ? size + 1 : 2; n <= size; n++) {
+                    split(item[n], a, ":")
+                    for (k = item[1] == "cut" ? a[2] - 1 : 0; k >= 0; k--) if (a[1] + k in place) begin_set(owner[active[place[a[1] + k]]])
                 }
+            }
             for (at in place) is_placed[number_of(active[place[at]])]
             print head[1]; print "since " since; if (mode != "644") print "mode " mode
             for (i = 2; i <= heads; i++) print head[i]
@@ -246,35 +250,61 @@ inner_path() {
     esac
 }
 
-# The rights of a file.
-mode_of() {
-    ls -lLd -- "$1" | awk '
-        function digit(bits) { return (bits ~ /^r/ ? 4 : 0) + (bits ~ /^.w/ ? 2 : 0) + (bits ~ /[xst]$/ ? 1 : 0) }
-        NR == 1 { print digit(substr($1, 2, 3)) digit(substr($1, 5, 3)) digit(substr($1, 8, 3)) }'
-}
-
-# Writes a file of FOLDER. Before it has its place it is complete, with the rights of what is there.
+# Writes a file of FOLDER. Before it has its place it is complete, with the rights of what is there. 1 where that isn't the file of the
+# third path, if one is given.
 write_file() {
     file=$folder/$1
     [ ! -L "$file" ] || file=$(readlink -f "$file") || exit 3
     beside=${file%/*}/.upd.part
-    if cat "$2" >"$beside" && { [ ! -e "$file" ] || chmod "$(mode_of "$file")" "$beside"; } && mv -f "$beside" "$file"; then return; fi
+    while [ -e "$beside" ] || [ -L "$beside" ]; do beside=$beside.part; done
+    if cat "$2" >"$beside" && { [ ! -e "$file" ] || chmod "$(mode_of "$file")" "$beside"; }; then
+        if [ $# -gt 2 ] && ! cmp -s "$3" "$file"; then
+            rm -f "$beside"
+            return 1
+        fi
+        if mv -f "$beside" "$file"; then return; fi
+    fi
     rm -f "$beside"
     say "$1 can't be written, and is as it was. Once it can be, start it again"
     exit 3
 }
 
-# Brings what the library has into FOLDER, where the file is still that of the second path.
+# The path beside a file for what the library has: one that LIST doesn't have.
+name_aside() {
+    aside=$1.upd
+    while [ -s "$work/asides" ] && grep -qxF -e "$aside" "$work/asides"; do aside=$aside.upd; done
+}
+
+# Brings what the library has into FOLDER, where the file is still that of the second path. Where that has it, others sent nothing.
 refresh() {
-    if cmp -s "$3" "$folder/$1"; then return; fi
-    if cmp -s "$2" "$folder/$1"; then
-        write_file "$1" "$3"
+    if cmp -s "$3" "$folder/$1" || cmp -s "$2" "$3"; then return; fi
+    if write_file "$1" "$3" "$2"; then
         say "$1 has now what others have sent, too"
     else
-        write_file "$1.upd" "$3"
-        say "$1 was changed meanwhile: what the library has is in $1.upd"
+        name_aside "$1"
+        write_file "$aside" "$3"
+        say "$1 was changed meanwhile: what the library has is in $aside"
         result=1
     fi
+}
+
+# Whether a deck, in a copy of the library and as of an ident, has the lines that LIST notes, if it notes any.
+is_as_noted() {
+    noted_sum=$(list_decks | deck=$2 awk '$1 == ENVIRON["deck"] { print $5 }')
+    case $noted_sum in '' | -) return ;; esac
+    ask text-at -- "$1" "$2" "$3" >"$work/base" && [ "$(sed 1d "$work/base" | sum_of)" = "$noted_sum" ]
+}
+
+# No run takes a deck out of use that others have changed: a *YANKDECK meets nothing.
+may_send() {
+    for item in "$1"/*.deck; do
+        if [ ! -e "$item" ] || [ -e "${item%.deck}.file" ]; then continue; fi
+        deck=$(cat "$item")
+        is_as_noted "$work/seen" "$deck" "${now% *}" || {
+            say "$(printf '%b' "$(cat "${item%.deck}.path")"): its deck $deck was changed by others. Run ${1##*/} is not sent"
+            return 1
+        }
+    done
 }
 
 # Notes in LIST what an accepted run, in a folder of LIST.put, has corrected.
@@ -284,26 +314,48 @@ note_run() {
     for item in "$1"/*.deck; do
         [ -e "$item" ] || continue
         deck=$(cat "$item") item=${item%.deck}
-        if [ ! -e "$item.file" ]; then
-            replace_section "$deck" /dev/null
-            continue
-        fi
-        { section "$deck" | sed '/^fit /d' && if [ -s "$item.fit" ]; then echo 'fit c'; fi; } >"$work/section" && "$upd" list -- "$work/after" "$deck" >"$work/listing" || exit 3
-        sed -n '1!s/^A [^ ]* //p' "$work/listing" | sed 1d >"$work/active"
-        diff -U 0 "$work/active" "$item.cards" >"$work/hunks"
-        new_section "$deck" "$now" "$(cat "$1/sets")" "$(cat "$item.mode")" \
-            "$work/section" "$work/listing" "$work/hunks" "$item.notes" >"$work/new" || exit 3
-        rm -rf "$work/out"
-        sh "$tree" "$work/after" "$work/out" <"$work/new" || exit 3
         path=$(printf '%b' "$(cat "$item.path")")
-        {
-            sed 2q "$work/new"
-            printf 'sum %s %s\n' "$(cksum <"$work/active")" "$(cksum <"$work/out/$path")"
-            sed 1,2d "$work/new"
-        } >"$work/section" && replace_section "$deck" "$work/section"
-        refresh "$path" "$item.file" "$work/out/$path"
+        if [ -e "$item.file" ]; then note_file "$1"; else note_gone "$1"; fi
     done
     mv -- "$1" "$1.noted" && rm -rf "$1.noted"
+}
+
+# What came between the look at a deck and the run that takes it out of use is seen by the ident before the run's.
+note_gone() {
+    set=$(sed -n 's/^\*IDENT //p' "$1/run")
+    before=$(set=$set awk '
+        $NF == "purged" { next }
+        $2 == ENVIRON["set"] { print before; exit }
+        { before = $2 }' "$work/idents")
+    if [ -z "$before" ] || is_as_noted "$work/after" "$deck" "$before"; then
+        replace_section "$deck" /dev/null
+    else
+        say "$path: its deck $deck was changed by others just before $set took it out of use. A run with *YANK $set brings it back"
+        result=1
+    fi
+}
+
+# Notes the file of an item, as the library has it now. A deck can be out of use by now, or purged.
+note_file() {
+    { section "$deck" | sed '/^fit /d' && if [ -s "$item.fit" ]; then echo 'fit c'; fi; } >"$work/section" || exit 3
+    ask list -- "$work/after" "$deck" >"$work/listing" || : >"$work/listing" || exit 3
+    if ! grep -q '^A ' "$work/listing"; then
+        say "$path stays as it is, since its deck $deck is purged or out of use"
+        result=1
+        return
+    fi
+    sed -n '1!s/^A [^ ]* //p' "$work/listing" | sed 1d >"$work/active"
+    diff -U 0 "$work/active" "$item.cards" >"$work/hunks"
+    new_section "$deck" "$now" "$(cat "$1/sets")" "$(cat "$item.mode")" \
+        "$work/section" "$work/listing" "$work/hunks" "$item.notes" >"$work/new" || exit 3
+    rm -rf "$work/out"
+    sh "$tree" "$work/after" "$work/out" <"$work/new" || exit 3
+    {
+        sed 2q "$work/new"
+        printf 'sum %s %s\n' "$(cksum <"$work/active")" "$(cksum <"$work/out/$path")"
+        sed 1,2d "$work/new"
+    } >"$work/section" && replace_section "$deck" "$work/section"
+    refresh "$path" "$item.file" "$work/out/$path"
 }
 
 over_changes() {
@@ -347,18 +399,30 @@ send() {
     exit 1
 }
 
+# The lines in LIST of the new decks whose runs are all accepted, as of the last of these.
+accepted_decks() {
+    sed -n 's/^.*"idents":\["\([^"]*\)"\].*"state":"accepted"}$/\1/p' "$work/answers" >"$work/begun" && begun=$work/begun awk '
+        BEGIN { while ((getline name < ENVIRON["begun"]) > 0) is_accepted[last = name] }
+        function end() { if (is_whole) printf "%s", lines; lines = "" }
+        $1 == "deck" { end(); is_whole = 1 }
+        $1 ~ /^(deck|part)$/ && !($2 in is_accepted) { is_whole = 0 }
+        { lines = lines ($1 == "since" ? "since " last : $0) "\n" }
+        END { end() }' "$put/list"
+}
+
 # Sends all that LIST.put has, first the new files. As what it is sent is there too.
 send_all() {
     asked_site=$site asked_mode=$mode
     read -r site mode <"$put/ready" || exit 3
     if [ -e "$put/spool" ]; then
         ask spool -- "$library" <"$put/spool" >"$work/answers" || exit 3
+        accepted_decks >"$work/accepted" || exit 3
+        sed -n -e 's/^deck //p' -e 's/^part \([^ ]*\) .*/\1/p' "$work/accepted" >>"$work/ours"
+        if [ -s "$work/accepted" ] && ! grep -qxF -e "$(sed 1q "$work/accepted")" "$list"; then change_list 1 - "$work/accepted"; fi
         if grep -v '"state":"accepted"}$' "$work/answers" >&2; then
             rm -rf "$put"
             exit 1
         fi
-        sed -n -e 's/^deck //p' -e 's/^part \([^ ]*\) .*/\1/p' "$put/list" >>"$work/ours"
-        if ! grep -qxF -e "$(sed 1q "$put/list")" "$list"; then change_list 1 - "$put/list"; fi
         rm -f "$put/spool"
     fi
     for each in $(ls "$put" | grep '^[1-9][0-9]*$' | sort -n); do send "$put/$each"; done
@@ -367,6 +431,8 @@ send_all() {
 }
 
 lock_list
+check_list || exit 1
+grep '\.upd$' "$work/paths" >"$work/asides"
 if [ -e "$put/ready" ]; then
     say "the runs of $put are sent again"
     send_all
@@ -463,7 +529,7 @@ keep_deck() {
     deck_count=$((deck_count + 1))
     item=$run/$deck_count
     if has_noted_rights; then rights=$noted; fi
-    cp "$folder/$path" "$item.file" && cp "$work/cards" "$item.cards" && cp "$work/notes" "$item.notes" && printf '%s\n' "$rights" >"$item.mode" \
+    cp "$work/mine" "$item.file" && cp "$work/cards" "$item.cards" && cp "$work/notes" "$item.notes" && printf '%s\n' "$rights" >"$item.mode" \
         && printf '%s' "${c:-$fit}" >"$item.fit" && printf '%s\n' "$code" >"$item.path" && printf '%s\n' "$deck" >"$item.deck" || exit 3
 }
 
@@ -472,10 +538,10 @@ keep_deck() {
     { print serial[$3] + 0, FNR, $0 }' "$work/held" "$work/decks" | sort -k 1,1n -k 2,2n | cut -d ' ' -f 3- >"$work/order" || exit 3
 if [ $# -gt 0 ]; then
     case $bring in /*) ;; *) bring=$(pwd)/$bring ;; esac
-    unset CDPATH
     awk 1 <"$list" >"$work/list" && known=$(($(wc -l <"$work/list"))) || exit 3
     for new; do inner_path "$new" || unfit=1; done >"$work/names"
     [ "$unfit" -eq 0 ] || exit 1
+    grep '\.upd$' "$work/names" >>"$work/asides"
     # shellcheck disable=SC2086 # $c is an option or nothing
     (cd "$folder" && sh "$bring" $c ${message:+-m "$message"} --list "$work/list" "$copy" "$site" "$number" <"$work/names" >"$work/spool") || exit $?
     tail -n +$((known + 1)) "$work/list" >"$put/list" && cp "$work/spool" "$put/spool" || exit 3
@@ -484,8 +550,9 @@ if [ $# -gt 0 ]; then
 fi
 while read -r deck code since serial sum file_sum noted fit <&3; do
     path=$(printf '%b' "$code")
-    if [ -e "$folder/$path.upd" ]; then
-        say "$path.upd is there: put what it has into $path, and remove it"
+    name_aside "$path"
+    if [ -e "$folder/$aside" ]; then
+        say "$aside is there: put what it has into $path, and remove it"
         unfit=1
         continue
     elif [ ! -e "$work/tree/$path" ]; then
@@ -503,17 +570,25 @@ while read -r deck code since serial sum file_sum noted fit <&3; do
     elif cmp -s "$folder/$path" "$work/tree/$path" && has_noted_rights; then
         printf '%s\n' "$deck" >>"$work/same"
         continue
-    elif [ "$(sum_of <"$folder/$path")" = "$file_sum" ] && has_noted_rights; then
+    elif ! cat "$folder/$path" >"$work/mine"; then # all is made from this copy: so what is saved later is seen
+        say "$path can't be read, or $work is full"
+        unfit=1
+        continue
+    elif [ "$(sum_of <"$work/mine")" = "$file_sum" ] && has_noted_rights; then
         deck_count=$((deck_count + 1))
-        cp "$folder/$path" "$work/was/$deck_count" && printf '%s %s %s\n' "$deck" "$code" "$deck_count" >>"$work/others" || exit 3
+        cp "$work/mine" "$work/was/$deck_count" && printf '%s %s %s\n' "$deck" "$code" "$deck_count" >>"$work/others" || exit 3
         continue
     elif [ "$since" = - ]; then
         say "LIST doesn't note as of which ident $path is: make the tree by tree.sh --list"
         unfit=1
         continue
     fi
-    sh "$cards" ${c:-$fit} --cr "$work/empty" "$folder/$path" "$work/notes" >"$work/cards"
-    case $? in
+    sh "$cards" ${c:-$fit} --cr "$work/empty" "$work/mine" "$work/notes" >"$work/cards" 2>"$work/faults"
+    status=$?
+    mine=$work/mine file=$folder/$path awk '
+        index($0, ENVIRON["mine"] ":") == 1 { $0 = ENVIRON["file"] substr($0, length(ENVIRON["mine"]) + 1) }
+        { print }' "$work/faults" >&2
+    case $status in
     0) ;;
     1)
         unfit=1
