@@ -502,11 +502,15 @@ try_lists() {
     expect 3 sh -c 'ls listed/a.c | sh "$0" --list LIST.I i.db LYON 1 >/dev/full' "$root/examples/bring.sh"
     expect 0 answering 'listed/a.c\nlisted/b.c\n' script bring --list LIST.I i.db LYON 1 && cp out spool
     expect 0 "$upd" spool i.db <spool
-    { cat LIST.I && sed -n '/^deck B$/,$p' LIST.I | sed s,/b.c,/a.c,; } >twice
+    { cat LIST.I && printf 'deck C\npath listed/a.c\ndeck B\npath c.c\n'; } >twice
     expect 1 script tree --list twice i.db twice.tree
-    must grep -qx 'listed/a.c' err
-    must grep -qx 'deck B' err
+    must grep -q 'twice has listed/a.c as the path of two decks' err
+    must grep -q 'twice has the deck B twice' err
     must [ ! -e twice.tree ]
+    mkdir mine && chmod 600 LIST.I && mv LIST.I mine && ln -s mine/LIST.I LIST.I
+    expect 0 script tree --list LIST.I i.db mine/tree
+    must [ -L LIST.I ]
+    must [ "$(ls -l mine/LIST.I | cut -c 1-10)" = -rw------- ]
     printf 'deck A\npath x\ndeck B\npath x/y\ndeck B\npath z\n' >inside
     expect 1 script tree i.db inside.tree <inside
     must grep -qx 'tree.sh: x/y, of B, would be in a folder that is a file' err

@@ -254,8 +254,10 @@ while IFS= read -r path && IFS= read -r file; do
     }
 done <"$added"
 if [ -n "$list" ]; then
-    sed "s|^since\$|since $(tail -n 1 "$taken")|" "$work/list" >"$work/new" && cat "$work/old" "$work/new" >"$list.new" || exit 3
+    sed "s|^since\$|since $(tail -n 1 "$taken")|" "$work/list" >"$work/new" && listed=$list || exit 3
+    [ ! -L "$list" ] || listed=$(readlink -f "$list") || exit 3
+    cat "$work/old" "$work/new" >"$listed.new" && { [ ! -e "$list" ] || chmod "$(mode_of "$list")" "$listed.new"; } || exit 3
 fi
 cat "$spool" || exit 3
-[ -z "$list" ] || mv "$list.new" "$list" || exit 3
+[ -z "$list" ] || mv -f "$listed.new" "$listed" || exit 3
 cat "$work/report" >&2

@@ -1,4 +1,4 @@
-# What several scripts do: bring.sh, edit.sh and put.sh read this file, which does nothing alone. The last two send runs, once they have
+# What several scripts do: bring.sh, tree.sh, edit.sh and put.sh read this file, which does nothing alone. The last two send runs, once they have
 # set library, site, mode, message and upd.
 #
 # A run that is to be sent is a folder of $runs, which its number names. What is too long for a run is an edit of several. A folder has

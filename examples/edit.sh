@@ -237,10 +237,11 @@ notes() {
 
 # The lines of what was edited become those that put.sh has left, but for SINCE and sum, which are those of LIST's tree.
 note_files() {
+    export new="$work/list"
     # shellcheck disable=SC2016 # these words are of awk
-    change_list -v new="$work/list" '
+    change_list '
         BEGIN {
-            while ((getline line < new) > 0) {
+            while ((getline line < ENVIRON["new"]) > 0) {
                 split(line, word, " ")
                 if (word[1] == "deck") deck = word[2]
                 if (word[1] !~ /^(since|sum)$/) lines[deck] = lines[deck] line "\n"

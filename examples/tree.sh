@@ -66,16 +66,7 @@ trap 'rm -rf "$work"' EXIT
 trap 'exit 3' HUP INT TERM
 if [ -n "$list" ]; then
     lock_list
-    twice=$(awk '
-        function end() { if (path != "" && paths[path]++) print path; path = "" }
-        $1 == "deck" { end(); if (decks[$2]++) print "deck " $2 }
-        $1 == "path" { path = path substr($0, 6) }
-        END { end() }' <"$list") || exit 3
-    if [ -n "$twice" ]; then
-        say "$list has these twice, and a file is of one deck: rename one"
-        printf '%b\n' "$twice" >&2
-        exit 1
-    fi
+    check_list || exit 1
     # All decks as of one moment.
     "$upd" backup -- "$library" "$work/copy" && "$upd" idents -- "$work/copy" >"$work/idents" || exit 3
     library=$work/copy since=$(awk '$NF != "purged" { last = $2 " " $1 } END { print last }' "$work/idents")
@@ -210,11 +201,11 @@ while read -r word rest || [ -n "$word" ]; do
 done
 if [ -n "$deck" ]; then write_file "$deck" "$path"; fi
 if [ -n "$list" ]; then
-    # All or nothing: `cat` sees that the disk is full, busybox awk doesn't.
-    { since=$since awk -v sums="$work/sums" '
-        BEGIN { while ((getline line < sums) > 0) { split(line, word, " "); sum[word[1]] = "sum " substr(line, length(word[1]) + 2) } }
+    export since sums="$work/sums"
+    # shellcheck disable=SC2016 # these words are of awk
+    change_list '
+        BEGIN { while ((getline line < ENVIRON["sums"]) > 0) { split(line, word, " "); sum[word[1]] = "sum " substr(line, length(word[1]) + 2) } }
         $1 != "since" && $1 != "sum" { print }
-        $1 == "deck" { print "since " ENVIRON["since"]; if ($2 in sum) print sum[$2] }' <"$list" \
-        && : >"$work/whole"; } | cat >"$list.new" && [ -e "$work/whole" ] && mv "$list.new" "$list" || exit 3
+        $1 == "deck" { print "since " ENVIRON["since"]; if ($2 in sum) print sum[$2] }'
 fi
 exit "$result"
