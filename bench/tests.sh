@@ -1,6 +1,6 @@
 #!/bin/sh
 # Runs the tests without proofs: `rt try --test` in each crate of tests, or in those that are named, as many tests side by side as there are
-# processors, at most four.
+# processors, at most four, and memory for, 7 GB each.
 #
 #     bench/tests.sh [CRATE..]         as bench/tests.sh upd_wire_tests
 #
@@ -14,6 +14,9 @@ cd "$(dirname -- "$0")/.." || exit 3
 folder=$(mktemp -d) && trap 'rm -rf "$folder"' EXIT || exit 3
 lanes=$(nproc 2>/dev/null || echo 1)
 [ "$lanes" -le 4 ] || lanes=4
+# Each compiles the crate.
+room=$(awk '/^MemAvailable:/ { print int($2 / 7340032) }' /proc/meminfo)
+[ "$lanes" -le "${room:-1}" ] || lanes=$((room > 1 ? room : 1))
 
 # Writes the names of a crate's tests, each to the list of a lane.
 deal() {
