@@ -10,11 +10,6 @@
 # Exit status: 0 no test failed, 1 a test failed, 3 a crate's tests could not be run or a test ran out of time
 set -u
 cd "$(dirname -- "$0")/.." || exit 3
-[ $# -gt 0 ] || set -- $(sed -n 's/^\(upd_[a-z_]*tests\):.*/\1/p' crates.txt)
-counts=$(mktemp) && trap 'rm -f "$counts"' EXIT || exit 3
-lanes=$(nproc 2>/dev/null || echo 1)
-room=$(awk '/^MemAvailable:/ { print int($2 / 7340032) }' /proc/meminfo)
-[ "$lanes" -le "${room:-1}" ] || lanes=$((room > 1 ? room : 1))
 
 # Runs the tests of a crate, and adds to `counts` how many passed, failed and ran out of time, and whether they didn't end.
 run() {
@@ -34,16 +29,18 @@ run() {
     echo "$1: $(($(date +%s) - began)) seconds"
 }
 
-lane=0
-while [ "$lane" -lt "$lanes" ]; do
-    place=0
-    for crate; do
-        [ $((place % lanes)) -ne "$lane" ] || run "$crate"
-        place=$((place + 1))
-    done &
-    lane=$((lane + 1))
-done
-wait
+# The script calls itself for each crate.
+if [ "${1-}" = --into ]; then
+    counts=$2
+    run "$3"
+    exit 0
+fi
+[ $# -gt 0 ] || set -- $(sed -n 's/^\(upd_[a-z_]*tests\):.*/\1/p' crates.txt)
+counts=$(mktemp) && trap 'rm -f "$counts"' EXIT || exit 3
+lanes=$(nproc 2>/dev/null || echo 1)
+room=$(awk '/^MemAvailable:/ { print int($2 / 7340032) }' /proc/meminfo)
+[ "$lanes" -le "${room:-1}" ] || lanes=$((room > 1 ? room : 1))
+printf '%s\n' "$@" | xargs -P "$lanes" -n 1 sh bench/tests.sh --into "$counts"
 awk '
     { passed += $1; failed += $2; slow += $3; unrun += $4 }
     END {
