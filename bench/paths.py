@@ -131,7 +131,7 @@ def logged(paths, name):
 
 
 def try_log(paths):
-    """A log with a commit, beside its library and alone. It stays. And a named pipe in place of a log: `init` makes no file beside it."""
+    """A log with a commit, beside its library and alone. It stays. And a named pipe, and a library, in place of a log."""
     file, _ = logged(paths, "log.db")
     before = file.read_bytes()
     for _ in range(2):
@@ -146,6 +146,11 @@ def try_log(paths):
     right = (ended.returncode, ended.stderr) == (3, "upd: Store (29) at 0\n") and not file.exists()
     paths.judge(right, "init beside a named pipe", ended)
     paths.is_said(file, "FILE-wal, can't be opened")
+    other, file = paths.library("taken.db-wal"), paths.path("taken.db")
+    before = other.read_bytes()
+    file.write_bytes(before)
+    paths.is_said(file, "FILE-wal, can't be opened")
+    paths.judge(other.read_bytes() == before, "a library in place of a log is left as it was", "")
 
 
 def try_folders(paths):
