@@ -124,8 +124,8 @@ wanted_name() {
 
 # Cuts the cards into parts that each fit into a run with two more lines and a message, as FOLDER/1, FOLDER/2 and so on.
 cut_cards() {
-    awk -v folder="$1" '
-        BEGIN { part = folder "/" ++parts; printf "" > part }
+    folder=$1 awk '
+        BEGIN { folder = ENVIRON["folder"]; part = folder "/" ++parts; printf "" > part }
         lines == 1997 || bytes + length($0) > 65400 { close(part); part = folder "/" ++parts; lines = bytes = 0 }
         { print > part; lines++; bytes += length($0) + 1 }' "$work/cards"
 }

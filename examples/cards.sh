@@ -47,8 +47,8 @@ byte_codes() {
         echo "leaves the bytes of the file as they are, since it has a NUL" >"$work/why"
         return
     fi
-    awk -v why="$work/why" '
-        BEGIN { for (i = 1; i < 256; i++) code[sprintf("%c", i)] = sprintf("%03o", i) }
+    why=$work/why awk '
+        BEGIN { why = ENVIRON["why"]; for (i = 1; i < 256; i++) code[sprintf("%c", i)] = sprintf("%03o", i) }
         {
             sub(/\r$/, "")
             if (/\\[^\t\f -~]/) clash = NR " has a backslash before such a byte"
@@ -126,8 +126,8 @@ check() {
     {
         echo '*DECK A'
         sed -E 's/^\*(DECK|DK|COMDECK|CD)([ ,]|$)/*ID\2/' "$work/cards"
-    } | "$upd" correct -- "$empty" CHECK 2>&1 >"$work/run" | file=$file awk -v map="$work/map" '
-        BEGIN { while ((getline < map) > 0) { line[++count] = $1; before[count] = $2 } }
+    } | "$upd" correct -- "$empty" CHECK 2>&1 >"$work/run" | file=$file map=$work/map awk '
+        BEGIN { while ((getline < ENVIRON["map"]) > 0) { line[++count] = $1; before[count] = $2 } }
         $1 == "TooManyLines" || $1 == "RunLong" { next }
         $1 == "upd:" { print ENVIRON["file"] ": " $0; next }
         {
