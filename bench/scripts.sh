@@ -8,8 +8,8 @@
 # killed while it sends. edit.sh edits a deck, a line that another site has changed, and files of a tree. An edit of several runs meets what came before its
 # first run, between two of them and after one that got no answer; and idents are purged, or come again, that an edit has seen. Decks go out of use and are
 # purged. LIST and the tree have odd names, a disk is full, a file becomes a folder, LIST has a path twice, and two scripts work with one LIST. A file is
-# saved while put.sh works, and a deck that goes out of use is changed then. site.sh sends a run, and once finds its folder in use. What comes out must be the
-# tree that was put in, and LIST the same under all.
+# saved while put.sh works, and a deck that goes out of use is changed then. LIST notes what the library never had. site.sh sends a run, and once finds its
+# folder in use. What comes out must be the tree that was put in, and LIST the same under all.
 #
 # Exit status: 0 all is as it should be, 1 something is not, 3 the executable is not there
 set -u
@@ -338,7 +338,9 @@ try_purges() {
     oslo '*IDENT Y\n*INSERT A.2\nnew\n'
     expect 1 answering 'yes\n' script put p.db PARIS LIST.P parts
     sed 's/^\(since [^ ]*\) .*/\1/' LIST.P >new && cat new >LIST.P
-    expect 0 answering 'yes\nyes\n' script put p.db PARIS LIST.P parts
+    expect 1 answering 'yes\nyes\n' script put p.db PARIS LIST.P parts
+    must grep -q 'run 3 of PARIS is accepted' err
+    must grep -q 'a.txt stays as it is, since the library never had it' err
     printf '#!/bin/sh\necho x >>"$1"\necho "*PURGE PARIS3" | "$UPD" run p.db OSLO 99 quick\n' >editor && chmod +x editor
     expect 1 env EDITOR=./editor sh -c 'echo yes | sh "$0" p.db PARIS A' "$root/examples/edit.sh"
     must grep -q 'PARIS3.* was purged' err
@@ -774,6 +776,37 @@ try_places() {
     must grep -q 'examine -- ' err
 }
 
+# A LIST that notes what the library never had: its run was refused, its deck is another one by now, only the first of two runs came, or the
+# library is a copy of before. The file is the last place of its text.
+try_strangers() {
+    for case in refused another part copy; do
+        rm -rf p.db p.db-wal p.old mine theirs LIST.P LIST.Q && mkdir mine theirs && oslo_number=0
+        awk -v count="$([ $case = part ] && echo 2500 || echo 2)" 'BEGIN { for (i = 1; i <= count; i++) print "mine " i }' >mine/n.c
+        echo theirs >theirs/n.c && cp mine/n.c was
+        expect 0 "$upd" init p.db
+        echo mine/n.c >names
+        expect 0 script bring --c --list LIST.P p.db LYON 1 <names && cp out spool && sed 's|path mine/|path |' LIST.P >new && cat new >LIST.P
+        if [ $case = part ]; then awk '/^RUN LYON 2 / { exit } { print }' spool >first && cat first >spool; fi
+        [ $case = refused ] || expect 0 "$upd" spool p.db <spool
+        if [ $case = another ]; then oslo '*PURGE N\n'; fi
+        if [ $case = refused ] || [ $case = another ]; then oslo '*DECK N\ntheirs\n'; fi
+        if [ $case = refused ]; then expect 0 "$upd" spool p.db <spool; fi
+        if [ $case = copy ]; then
+            expect 0 "$upd" backup p.db p.old
+            echo 'a day of work' >>mine/n.c && cp mine/n.c was
+            expect 0 script put --yes p.db LYON LIST.P mine
+            rm -f p.db p.db-wal && mv p.old p.db
+            oslo '*IDENT T\n*INSERT N.2\ntheirs\n'
+        fi
+        for rights in 644 755; do
+            chmod $rights mine/n.c
+            expect 1 script put --yes p.db LYON LIST.P mine
+            must grep -q 'the library never had it as LIST notes' err
+            must cmp was mine/n.c
+        done
+    done
+}
+
 try_site() {
     mkdir -p site/outbox && printf '*DECK S\nONE\n' >site/outbox/a.quick
     expect 0 script site site BERN l.db
@@ -812,6 +845,7 @@ try_tools() {
     try_refusals
     try_asides
     try_places
+    try_strangers
     try_site
     PATH=$old_path
     [ -e "$work/LIST" ] || cp LIST.LYON "$work/LIST"

@@ -6,7 +6,8 @@
 # LIST and FOLDER are as bring.sh or `tree.sh --list` made them. Each file of LIST that is not as the library has it is corrected
 # in its deck, against the deck as it was when LIST was noted: so what others have sent meanwhile stays. It then comes into FOLDER,
 # too. After a purge of cards that the file was made from, or of the ident that LIST notes, a file that you changed has to be made
-# again, by `tree.sh --list`, and your changes in it; and one whose deck is purged or out of use stays as it is. What no card has, as
+# again, by `tree.sh --list`, and your changes in it. A file stays as it is where its deck is purged or out of use, and where the
+# library has never had what LIST notes: a run of bring.sh was refused, or the library is a copy of before. What no card has, as
 # blanks at the end of lines, line ends and rights, goes into LIST only. So let FOLDER be a tree of yours, or a release whose decks
 # nobody else corrects. NEW are files of FOLDER that become decks, by bring.sh: their paths from there, or from here. FILE is the
 # library; no command may have it open. The runs are the next ones of SITE, and their sets are named by SITE and the run's number, as
@@ -295,6 +296,17 @@ is_as_noted() {
     ask text-at -- "$1" "$2" "$3" >"$work/base" && [ "$(sed 1d "$work/base" | sum_of)" = "$noted_sum" ]
 }
 
+# Whether the library has had what LIST notes of a deck: its lines as of SINCE, or SINCE itself, and then cards were purged. Else the
+# file stays as it is: nothing else may have its text.
+has_had() {
+    if is_held "$since" "$serial" && is_as_noted "$copy" "$deck" "$since"; then return; fi
+    if name=$since serial=$serial awk '$2 == ENVIRON["name"] && $1 == ENVIRON["serial"] { found = 1 } END { exit !found }' "$work/held"; then return; fi
+    say "$path stays as it is, since the library never had it as LIST notes. Its deck $deck may be another file's, or $library a copy of before"
+    printf '%s\n' "$deck" >>"$work/stays"
+    result=1
+    return 1
+}
+
 # No run takes a deck out of use that others have changed: a *YANKDECK meets nothing.
 may_send() {
     for item in "$1"/*.deck; do
@@ -533,7 +545,8 @@ keep_deck() {
         && printf '%s' "${c:-$fit}" >"$item.fit" && printf '%s\n' "$code" >"$item.path" && printf '%s\n' "$deck" >"$item.deck" || exit 3
 }
 
-: >"$work/same" && : >"$work/gone" && : >"$work/unlisted" && : >"$work/stays" && : >"$work/ours" && : >"$work/others" && mkdir "$work/was" "$work/noted" && : >"$work/noted/sets" && awk '
+: >"$work/same" && : >"$work/gone" && : >"$work/unlisted" && : >"$work/stays" && : >"$work/ours" && : >"$work/others" || exit 3
+mkdir "$work/was" "$work/noted" && : >"$work/noted/sets" && awk '
     NR == FNR { if ($NF != "purged") serial[$2] = $1; next }
     { print serial[$3] + 0, FNR, $0 }' "$work/held" "$work/decks" | sort -k 1,1n -k 2,2n | cut -d ' ' -f 3- >"$work/order" || exit 3
 if [ $# -gt 0 ]; then
@@ -575,6 +588,7 @@ while read -r deck code since serial sum file_sum noted fit <&3; do
         unfit=1
         continue
     elif [ "$(sum_of <"$work/mine")" = "$file_sum" ] && has_noted_rights; then
+        has_had || continue
         deck_count=$((deck_count + 1))
         cp "$work/mine" "$work/was/$deck_count" && printf '%s %s %s\n' "$deck" "$code" "$deck_count" >>"$work/others" || exit 3
         continue
@@ -597,16 +611,16 @@ while read -r deck code since serial sum file_sum noted fit <&3; do
     *) exit 3 ;;
     esac
     if [ "$(sum_of <"$work/cards")" = "$sum" ]; then
-        keep_noted
+        if has_had; then keep_noted; fi
         continue
     elif ! is_held "$since" "$serial"; then
-        say "$path is not as the library has it, and $since was purged, the last ident that it has seen: $again"
+        say "$path is not as the library has it, and $since was purged or never came, the last ident that it has seen: $again"
         unfit=1
         continue
     fi
     ask text-at -- "$copy" "$deck" "$since" >"$work/base" && { sed 1q "$work/base" && cat "$work/cards"; } >"$work/text" || exit 3
     if [ "$sum" != - ] && [ "$(sed 1d "$work/base" | sum_of)" != "$sum" ]; then
-        say "$path is not as the library has it, and cards of its deck $deck were purged: $again"
+        say "$path is not as the library has it, and cards of its deck $deck were purged, or it is another one: $again"
         unfit=1
         continue
     fi
