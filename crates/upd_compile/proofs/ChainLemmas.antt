@@ -117,7 +117,7 @@ spreads-along before a _ (Through d c calls chain) =
     settled-any before a (length a.decks) (settled-at_length before a) d
     ∙ called-spreads before a (length a.decks) d c calls (or_right (is_changed before c) _ (spreads-along before a c chain))
 
-pub has_chain-path : (before a : ActivesView) (d : ActiveDeckView) → IsTrue (has_chain before a d) ↔ Chain before a d
-has_chain-path before a d =
+pub has_chain_path : (before a : ActivesView) (d : ActiveDeckView) → IsTrue (has_chain before a d) ↔ Chain before a d
+has_chain_path before a d =
     let spread = has_chain_within-spreads before a (length a.decks) d in
     (λ e. path-of before a (length a.decks) d (sym spread ∙ e), λ chain. spread ∙ spreads-along before a d chain)

@@ -67,8 +67,8 @@ walks a (suc levels) depth left d =
     meets-all a (suc levels) depth (gives-next a levels depth left (walks a levels (depth + 1) (omega arith))) (text_cards d)
 
 -- and nothing else
-pub walks-walk : (a : ActivesView) (d : ActiveDeckView) (events : List WalkEvent) → Walks a 1 d events ↔ (events ≡ walk MAX_DEPTH a d)
-walks-walk a d events = (
+pub walks_walk : (a : ActivesView) (d : ActiveDeckView) (events : List WalkEvent) → Walks a 1 d events ↔ (events ≡ walk MAX_DEPTH a d)
+walks_walk a d events = (
   λ met. met-is a 1 (text_cards d) events met MAX_DEPTH (omega arith),
   λ e. subst (λ es. Walks a 1 d es) (sym e) (walks a MAX_DEPTH 1 (omega arith) d),
 )

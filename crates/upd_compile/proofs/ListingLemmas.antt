@@ -38,7 +38,7 @@ at_position idents z =
     let position : suc z - 1 ≡ z = omega arith in
     rw (later, position) refl
 
-pub purged-not_held : (idents : List Ident) (z : ℕ) → AreAgedFrom 1 idents → is_purged idents z ≡ not (is_held idents z)
-purged-not_held idents zero aged = ap not (sym (older_unheld 1 0 idents aged (omega arith)))
-purged-not_held idents (suc z) aged =
+pub purged_not_held : (idents : List Ident) (z : ℕ) → AreAgedFrom 1 idents → is_purged idents z ≡ not (is_held idents z)
+purged_not_held idents zero aged = ap not (sym (older_unheld 1 0 idents aged (omega arith)))
+purged_not_held idents (suc z) aged =
     rw (at_position idents z) (ap not (sym (held_at_position 1 z (suc z) idents aged (omega arith))))

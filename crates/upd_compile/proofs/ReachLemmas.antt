@@ -64,21 +64,6 @@ not_both : (m : Bool) → (m && not m) ≡ false
 not_both true = refl
 not_both false = refl
 
-pub flags-then : (a p e lt : Bool) → ((a || (p && lt)) || (e && lt)) ≡ (a || ((p || e) && lt))
-flags-then true p e lt = refl
-flags-then false true true true = refl
-flags-then false true true false = refl
-flags-then false true false true = refl
-flags-then false true false false = refl
-flags-then false false e lt = refl
-
-opens-then : (x a f g : Bool) → ((x || ((a || f) && not a)) || (((a || f) || g) && not (a || f))) ≡ (x || (((a || f) || g) && not a))
-opens-then true a f g = refl
-opens-then false true f g = refl
-opens-then false false true g = refl
-opens-then false false false true = refl
-opens-then false false false false = refl
-
 -- one position more
 pub VisitsMore-one : (flags : List Bool) (work : List ℕ) (i : ℕ) → i < length flags → is_flagged flags i ≡ false
     → VisitsMore (λ k. i == k) flags (set flags i true) work (work ++ i ∷ [])
@@ -108,17 +93,4 @@ VisitsMore-none flags work i h = record {
   opened = λ k. sym (or-false (is_in work k)) ∙ ap (λ b. is_in work k || b) (sym (not_both (is_flagged flags k)));
   same_length = refl;
   same_work = refl;
-}
-
--- some, and then one more
-pub VisitsMore-then : (positions : List ℕ) (i : ℕ) {a b c : List Bool} {x y z : List ℕ} → VisitsMore (is_in positions) a b x y
-    → VisitsMore (λ k. i == k) b c y z → VisitsMore (is_in (positions ++ i ∷ [])) a c x z
-VisitsMore-then positions i {a = a} {x = x} first then = record {
-  visits_more = λ k. then.visits_more k
-      ∙ rw (first.visits_more k, first.same_length, is_in-push positions i k) (flags-then (is_flagged a k) (is_in positions k) (i == k) (nat_lt k (length a)));
-  opened = λ k.
-      then.opened k ∙ rw (first.opened k, then.visits_more k, first.visits_more k, first.same_length)
-      (opens-then (is_in x k) (is_flagged a k) (is_in positions k && nat_lt k (length a)) ((i == k) && nat_lt k (length a)));
-  same_length = then.same_length ∙ first.same_length;
-  same_work = then.same_work ∙ first.same_work;
 }

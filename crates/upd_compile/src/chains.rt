@@ -19,6 +19,7 @@ use upd_core::{ActiveCardRef, ActiveDeckRef, Ident, Serial};
 use upd_text::line::{called, is_call};
 
 /// A deck has a chain to a changed common deck exactly when there is a path of calls to it, of any length.
+#[tactic(auto, using(crate::proofs::ChainLemmas::has_chain_path))]
 pub fn chains_are_paths()
     ensures { (before a : ActivesView) (d : ActiveDeckView) → IsTrue (has_chain before a d) ↔ Chain before a d }
 {}

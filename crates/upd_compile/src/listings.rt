@@ -77,6 +77,7 @@ pub fn list_yanks(alloc: Global, library: &Library) -> Result<Vec<u8>, Fault>
 }
 
 /// Where the serials of a directory are 1, 2, .., the suffix `purged` is on exactly the serials that are not held.
+#[tactic(auto, using(crate::proofs::ListingLemmas::purged_not_held))]
 pub fn suffixes_show_the_purged_idents()
     ensures { (idents : List Ident) (z : ℕ) → AreAgedFrom 1 idents → is_purged idents z ≡ not (is_held idents z) }
 {}

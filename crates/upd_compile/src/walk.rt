@@ -17,6 +17,7 @@ use upd_text::line::{called, is_call};
 
 /// The walk through a deck is exactly the one that the rule of depths defines: a call in the deck has depth 1, a call
 /// in a called deck is one deeper, and calls are followed down to [`MAX_DEPTH`](upd_text::limits::MAX_DEPTH).
+#[tactic(auto, using(crate::proofs::DepthLemmas::walks_walk))]
 pub fn walks_go_by_depth()
     ensures { (a : ActivesView) (d : ActiveDeckView) (events : List WalkEvent)
         → Walks a 1 d events ↔ (events ≡ walk MAX_DEPTH a d) }

@@ -13,11 +13,5 @@ same_cards-lengths (c ∷ cs) (e ∷ es) differ =
 pub returns-then-was-cards : goal.returns-then-was-cards
 returns-then-was-cards c = sym (same_cards-lengths c.args.was.now c.args.cards.now c.if-was-cards.true)
 
-pub returns-then-not-same_card : goal.returns-then-not-same_card
-returns-then-not-same_card c = grind (arith, common_steps)
-
-pub loop-i-preserved : goal.loop-i-preserved
-loop-i-preserved c = grind (arith, common_steps)
-
 pub returns : goal.returns
 returns c = grind (arith, common_steps)

@@ -23,8 +23,5 @@ loop-i-preserved-in_ok-insert c = λ name.
     let front = held_kind-cons c.index-idents-i.result (drop c.loop-i.i c.args.idents.now) name c.if-ident.true in
     updated ∙ rw (here, one, ← c.index-idents-i.is, front, ← c.as_bytes.ensures, before) refl
 
-pub loop-i-init : goal.loop-i-init
-loop-i-init c = grind (arith, common_steps)
-
 pub loop-i-preserved : goal.loop-i-preserved
 loop-i-preserved c = grind (arith, common_steps)

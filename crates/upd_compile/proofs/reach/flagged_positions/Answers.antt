@@ -1,4 +1,4 @@
-use Rattle.upd_compile.proofs.Common.{common_steps, arith, rules, ◌≡◌, sym, add-one, true, false, get_or, take, is_flagged}
+use Rattle.upd_compile.proofs.Common.{rules, ◌≡◌, sym, add-one, true, false, get_or, take, is_flagged}
 use Rattle.upd_compile.proofs.ReachLemmas.{is_in-push, is_flagged-more, or-false}
 use Rattle.upd_compile.proofs.reach.flagged_positions.Goals as goal
 use Rattle.upd_compile.proofs.reach.flagged_positions.Goals.{then-is_flagged+in_ok-push, else-is_flagged}
@@ -17,6 +17,3 @@ loop-position-preserved c = λ k.
           rw (w.positions-is, c.loop-position.invariant k, add-one, is_flagged-more flags i k false c.loop-position-test.true here)
           (sym (or-false (is_flagged (take i flags) k)))
     ]
-
-pub returns : goal.returns
-returns c = grind (arith, common_steps)

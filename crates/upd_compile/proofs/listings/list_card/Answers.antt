@@ -1,5 +1,0 @@
-use Rattle.upd_compile.proofs.Common.{rules}
-use Rattle.upd_compile.proofs.listings.list_card.Goals as goal
-
-pub returns : goal.returns
-returns c = search rules
