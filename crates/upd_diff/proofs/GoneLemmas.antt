@@ -2,12 +2,21 @@
 use Rattle.upd_diff.proofs.Common.{◌≡◌, ℕ, ◌+◌, Bool, true, false, cond, List, [], ◌∷◌, ◌++◌, map, length, refl, ap, sym, ◌∙◌, append-nil, not, ◌==◌, ◌||◌}
 use Rattle.upd_diff.proofs.Common.{filter, flat_map, AllByRecursion, CardRef, Entry, Ident, Target, CardView, ref_of, AreApart, CardRow, EntryRow, TargetRow}
 use Rattle.upd_diff.proofs.Common.{same_ref, card_rows, entry_rows, target_rows, CardDiffView, DeckDiffView, Kept, Gone, New, card_before, CardGone}
-use Rattle.upd_diff.proofs.Common.{EntriesGone, TargetsGone, begins, gone_of, same_ref_own, on_cards, on_entries, on_targets, all_acts, is_in, without}
+use Rattle.upd_diff.proofs.Common.{EntriesGone, TargetsGone, begins, gone_of, same_ref_own, on_cards, on_entries, on_targets, all_acts, is_in, subst, without}
 use Rattle.std.proofs.lemmas.List.Elements.{filter-append}
 use Rattle.upd_records.proofs.EqualLemmas.{other_ref}
 use Rattle.upd_records.proofs.EffectLemmas.{without_none}
 
 -- ---- which cards are deleted, by a flag at each card diff
+
+one_not_in : (r card : CardRef) (b : Bool) (keys : List CardRef) → (card ≡ r → ⊥) → is_in keys card ≡ false
+    → is_in (cond b (r ∷ []) [] ++ keys) card ≡ false
+one_not_in r card true keys other later = rw (other_ref r card (λ e. other (sym e))) later
+one_not_in r card false keys other later = later
+
+no_rows : {A : Type 0} (b : Bool) (xs : List A) → xs ≡ [] → xs ≡ cond b [] xs
+no_rows true xs e = e
+no_rows false xs e = refl
 
 module _ (idents : List Ident) (goes : CardDiffView → Bool) where
   abbrev pub key_of : CardDiffView → List CardRef
@@ -19,21 +28,10 @@ module _ (idents : List Ident) (goes : CardDiffView → Bool) where
   is_not_in : (card : CardRef) (card_diffs : List CardDiffView) → AllByRecursion (λ r. card ≡ r → ⊥) (map (ref_of idents) (flat_map card_before card_diffs))
       → is_in (flat_map key_of card_diffs) card ≡ false
   is_not_in card [] apart = refl
-  is_not_in card (Kept c d ∷ card_diffs) apart = go (goes (Kept c d)) (is_not_in card card_diffs apart.1)
-    where
-      go : (b : Bool) → is_in (flat_map key_of card_diffs) card ≡ false → is_in (cond b (ref_of idents c ∷ []) [] ++ flat_map key_of card_diffs) card ≡ false
-      go true later = rw (other_ref (ref_of idents c) card (λ e. apart.0 (sym e))) later
-      go false later = later
-  is_not_in card (Gone c ∷ card_diffs) apart = go (goes (Gone c)) (is_not_in card card_diffs apart.1)
-    where
-      go : (b : Bool) → is_in (flat_map key_of card_diffs) card ≡ false → is_in (cond b (ref_of idents c ∷ []) [] ++ flat_map key_of card_diffs) card ≡ false
-      go true later = rw (other_ref (ref_of idents c) card (λ e. apart.0 (sym e))) later
-      go false later = later
-  is_not_in card (New d ∷ card_diffs) apart = go (goes (New d)) (is_not_in card card_diffs apart)
-    where
-      go : (b : Bool) → is_in (flat_map key_of card_diffs) card ≡ false → is_in (cond b [] [] ++ flat_map key_of card_diffs) card ≡ false
-      go true later = later
-      go false later = later
+  is_not_in card (Kept c d ∷ card_diffs) apart = one_not_in (ref_of idents c) card (goes (Kept c d)) _ apart.0 (is_not_in card card_diffs apart.1)
+  is_not_in card (Gone c ∷ card_diffs) apart = one_not_in (ref_of idents c) card (goes (Gone c)) _ apart.0 (is_not_in card card_diffs apart.1)
+  is_not_in card (New d ∷ card_diffs) apart =
+      subst (λ t. is_in (t ++ flat_map key_of card_diffs) card ≡ false) (no_rows (goes (New d)) [] refl) (is_not_in card card_diffs apart)
 
   -- the keys still fit with that of a card which is not one of these
   still : (k : CardRef) (keys : List CardRef) (card_diffs : List CardDiffView)
@@ -44,30 +42,24 @@ module _ (idents : List Ident) (goes : CardDiffView → Bool) where
   still k keys (Gone c ∷ card_diffs) apart fit = ((rw (other_ref k (ref_of idents c) apart.0) fit.0.0, tt), still k keys card_diffs apart.1 fit.1)
   still k keys (New d ∷ card_diffs) apart fit = (tt, still k keys card_diffs apart fit.1)
 
+  one_fits : (k : CardRef) (b : Bool) (keys : List CardRef) (card_diffs : List CardDiffView)
+      → AllByRecursion (λ r. k ≡ r → ⊥) (map (ref_of idents) (flat_map card_before card_diffs)) → is_in keys k ≡ false → AllByRecursion (Fits keys) card_diffs
+      → (is_in (cond b (k ∷ []) [] ++ keys) k ≡ b) × AllByRecursion (Fits (cond b (k ∷ []) [] ++ keys)) card_diffs
+  one_fits k true keys card_diffs apart none later = (rw (same_ref_own k) refl, still k keys card_diffs apart later)
+  one_fits k false keys card_diffs apart none later = (none, later)
+
   -- the keys of the deleted cards fit
   pub keys_fit : (card_diffs : List CardDiffView) → AreApart (map (ref_of idents) (flat_map card_before card_diffs))
       → AllByRecursion (Fits (flat_map key_of card_diffs)) card_diffs
   keys_fit [] apart = tt
-  keys_fit (Kept c d ∷ card_diffs) apart = go (goes (Kept c d)) refl (is_not_in (ref_of idents c) card_diffs apart.0) (keys_fit card_diffs apart.1)
-    where
-      go : (b : Bool) → goes (Kept c d) ≡ b → is_in (flat_map key_of card_diffs) (ref_of idents c) ≡ false
-          → AllByRecursion (Fits (flat_map key_of card_diffs)) card_diffs
-          → AllByRecursion (Fits (cond b (ref_of idents c ∷ []) [] ++ flat_map key_of card_diffs)) (Kept c d ∷ card_diffs)
-      go true e none later = ((rw (same_ref_own (ref_of idents c)) (sym e), tt), still (ref_of idents c) _ card_diffs apart.0 later)
-      go false e none later = ((none ∙ sym e, tt), later)
-  keys_fit (Gone c ∷ card_diffs) apart = go (goes (Gone c)) refl (is_not_in (ref_of idents c) card_diffs apart.0) (keys_fit card_diffs apart.1)
-    where
-      go : (b : Bool) → goes (Gone c) ≡ b → is_in (flat_map key_of card_diffs) (ref_of idents c) ≡ false
-          → AllByRecursion (Fits (flat_map key_of card_diffs)) card_diffs
-          → AllByRecursion (Fits (cond b (ref_of idents c ∷ []) [] ++ flat_map key_of card_diffs)) (Gone c ∷ card_diffs)
-      go true e none later = ((rw (same_ref_own (ref_of idents c)) (sym e), tt), still (ref_of idents c) _ card_diffs apart.0 later)
-      go false e none later = ((none ∙ sym e, tt), later)
-  keys_fit (New d ∷ card_diffs) apart = go (goes (New d)) (keys_fit card_diffs apart)
-    where
-      go : (b : Bool) → AllByRecursion (Fits (flat_map key_of card_diffs)) card_diffs
-          → AllByRecursion (Fits (cond b [] [] ++ flat_map key_of card_diffs)) (New d ∷ card_diffs)
-      go true later = (tt, later)
-      go false later = (tt, later)
+  keys_fit (Kept c d ∷ card_diffs) apart =
+      let none = is_not_in (ref_of idents c) card_diffs apart.0 in
+      let one = one_fits (ref_of idents c) (goes (Kept c d)) _ card_diffs apart.0 none (keys_fit card_diffs apart.1) in ((one.0, tt), one.1)
+  keys_fit (Gone c ∷ card_diffs) apart =
+      let none = is_not_in (ref_of idents c) card_diffs apart.0 in
+      let one = one_fits (ref_of idents c) (goes (Gone c)) _ card_diffs apart.0 none (keys_fit card_diffs apart.1) in ((one.0, tt), one.1)
+  keys_fit (New d ∷ card_diffs) apart =
+      (tt, subst (λ t. AllByRecursion (Fits (t ++ flat_map key_of card_diffs)) card_diffs) (no_rows (goes (New d)) [] refl) (keys_fit card_diffs apart))
 
 -- ---- the changes that delete rows, and the flags that say of which cards
 
@@ -173,10 +165,6 @@ rows_without card x keys r rest e later = rw e (go (is_in keys x) refl later)
     go true e later = rw e at later
     go false e later = ap (λ t. r ∷ t) (rw e at later)
 
-no_rows : {A : Type 0} (b : Bool) (xs : List A) → xs ≡ [] → xs ≡ cond b [] xs
-no_rows true xs e = e
-no_rows false xs e = refl
-
 entries_without : (keys : List CardRef) (x : CardRef) (n : ℕ) (es : List Entry) → without entry_of keys (entry_rows x n es)
     ≡ cond (is_in keys x) [] (entry_rows x n es)
 entries_without keys x n [] = no_rows (is_in keys x) [] refl
@@ -193,25 +181,23 @@ entries_are_of idents keys c = entries_without keys (ref_of idents c) 0 c.histor
 pub targets_are_of : (idents : List Ident) → AreOf target_of idents (λ c. target_rows (ref_of idents c) 0 c.targets)
 targets_are_of idents keys c = targets_without keys (ref_of idents c) 0 c.targets
 
+rows_first : {A : Type 0} (card : A → CardRef) (keys : List CardRef) (b : Bool) (xs rest left : List A) → without card keys xs ≡ cond b [] xs
+    → without card keys rest ≡ left → without card keys (xs ++ rest) ≡ cond b [] (xs ++ []) ++ left
+rows_first card keys b xs rest left one later =
+    filter-append _ xs rest ∙ ap (λ t. t ++ without card keys rest) (one ∙ ap (λ t. cond b [] t) (sym (append-nil xs)))
+    ∙ ap (λ t. cond b [] (xs ++ []) ++ t) later
+
 -- where the keys fit, the rows of the flagged cards are deleted
 pub rows_left : {A : Type 0} (card : A → CardRef) (idents : List Ident) (rows : CardView → List A) (goes : CardDiffView → Bool) (keys : List CardRef)
     → AreOf card idents rows → (card_diffs : List CardDiffView) → AllByRecursion (Fits idents goes keys) card_diffs
     → without card keys (flat_map rows (flat_map card_before card_diffs)) ≡ flat_map (staying goes rows) card_diffs
 rows_left card idents rows goes keys own [] fit = refl
 rows_left card idents rows goes keys own (Kept c d ∷ card_diffs) fit =
-    filter-append _ (rows c) (flat_map rows (flat_map card_before card_diffs))
-    ∙ ap (λ t. t ++ without card keys (flat_map rows (flat_map card_before card_diffs))) (one (own keys c))
-    ∙ ap (λ t. staying goes rows (Kept c d) ++ t) (rows_left card idents rows goes keys own card_diffs fit.1)
-  where
-    one : without card keys (rows c) ≡ cond (is_in keys (ref_of idents c)) [] (rows c) → without card keys (rows c) ≡ cond (goes (Kept c d)) [] (rows c ++ [])
-    one e = e ∙ ap (λ b. cond b [] (rows c)) fit.0.0 ∙ ap (λ t. cond (goes (Kept c d)) [] t) (sym (append-nil (rows c)))
+    rows_first card keys (goes (Kept c d)) (rows c) _ _ (own keys c ∙ ap (λ b. cond b [] (rows c)) fit.0.0)
+    (rows_left card idents rows goes keys own card_diffs fit.1)
 rows_left card idents rows goes keys own (Gone c ∷ card_diffs) fit =
-    filter-append _ (rows c) (flat_map rows (flat_map card_before card_diffs))
-    ∙ ap (λ t. t ++ without card keys (flat_map rows (flat_map card_before card_diffs))) (one (own keys c))
-    ∙ ap (λ t. staying goes rows (Gone c) ++ t) (rows_left card idents rows goes keys own card_diffs fit.1)
-  where
-    one : without card keys (rows c) ≡ cond (is_in keys (ref_of idents c)) [] (rows c) → without card keys (rows c) ≡ cond (goes (Gone c)) [] (rows c ++ [])
-    one e = e ∙ ap (λ b. cond b [] (rows c)) fit.0.0 ∙ ap (λ t. cond (goes (Gone c)) [] t) (sym (append-nil (rows c)))
+    rows_first card keys (goes (Gone c)) (rows c) _ _ (own keys c ∙ ap (λ b. cond b [] (rows c)) fit.0.0)
+    (rows_left card idents rows goes keys own card_diffs fit.1)
 rows_left card idents rows goes keys own (New d ∷ card_diffs) fit =
     rows_left card idents rows goes keys own card_diffs fit.1 ∙ ap (λ t. t ++ flat_map (staying goes rows) card_diffs) (no_rows (goes (New d)) [] refl)
 

@@ -62,12 +62,6 @@ paired_lead (d ∷ xs) (e ∷ ys) (k ∷ ks) (inr p) = lead_gone xs (e ∷ ys) k
 
 -- ---- one more deck
 
-pub await_pair : (before after : List DeckView) (ks : List DeckDiffView) (d e : DeckView) (k : DeckDiffView) (olds news : List DeckView)
-    → e.ident ≡ d.ident → AreOfDeck d.ident d.cards e.cards k → Await before after ks (d ∷ olds) (e ∷ news)
-    → Await before after (ks ++ k ∷ []) olds news
-await_pair before after ks d e k olds news same are so rest p =
-    subst (Paired before after) (sym (append_assoc ks (k ∷ []) rest)) (so (k ∷ rest) (inl (same, are, p)))
-
 pub await_gone : (before after : List DeckView) (ks : List DeckDiffView) (d : DeckView) (k : DeckDiffView) (olds news : List DeckView)
     → ((e : DeckView) (es : List DeckView) → news ≡ e ∷ es → e.ident ≡ d.ident → ⊥) → AreOfDeck d.ident d.cards [] k → Await before after ks (d ∷ olds) news
     → Await before after (ks ++ k ∷ []) olds news
@@ -75,11 +69,6 @@ await_gone before after ks d k olds [] other are so rest p =
     subst (Paired before after) (sym (append_assoc ks (k ∷ []) rest)) (so (k ∷ rest) (are, p))
 await_gone before after ks d k olds (e ∷ news) other are so rest p =
     subst (Paired before after) (sym (append_assoc ks (k ∷ []) rest)) (so (k ∷ rest) (inr (other e news refl, are, p)))
-
-pub await_new : (before after : List DeckView) (ks : List DeckDiffView) (e : DeckView) (k : DeckDiffView) (news : List DeckView)
-    → AreOfDeck e.ident [] e.cards k → Await before after ks [] (e ∷ news) → Await before after (ks ++ k ∷ []) [] news
-await_new before after ks e k news are so rest p =
-    subst (Paired before after) (sym (append_assoc ks (k ∷ []) rest)) (so (k ∷ rest) (are, p))
 
 pub await_none : (before after : List DeckView) (ks : List DeckDiffView) → Await before after ks [] [] → Paired before after ks
 await_none before after ks so = subst (Paired before after) (append-nil ks) (so [] tt)

@@ -6,11 +6,5 @@ use Rattle.upd_diff.proofs.touched.is_same_history.Goals as goal
 pub returns-then-history-other : goal.returns-then-history-other
 returns-then-history-other c = sym (other_history _ _ c.if-history-other.true)
 
-pub returns-then-ne : goal.returns-then-ne
-returns-then-ne c = grind (arith, common_steps)
-
-pub loop-i-preserved : goal.loop-i-preserved
-loop-i-preserved c = grind (arith, common_steps)
-
 pub returns : goal.returns
 returns c = grind (arith, common_steps)
