@@ -42,6 +42,7 @@ impl State {
 }
 
 /// A line raises the next card number by at most 1, so the numbers of a run fit into 32 bits.
+#[tactic(auto, using(crate::proofs::StepLemmas::step_rises))]
 pub fn numbers_rise_by_one()
     ensures { (line : LineView) (s t : State) → step line s ≡ Ok t → next_most t ≤ next_most s + 1 }
 {}

@@ -2,13 +2,7 @@ use Rattle.upd_apply.proofs.Common.{◌+◌, ◌≤◌, arith, common_steps, nex
 use Rattle.upd_apply.proofs.StepLemmas.{line_rises}
 use Rattle.upd_apply.proofs.applying.take_steps.Goals as goal
 
-pub returns-in_err-take_step : goal.returns-in_err-take_step
-returns-in_err-take_step c = grind (arith, common_steps)
-
 pub loop-line-preserved : goal.loop-line-preserved
 loop-line-preserved c =
     let rises : next_most c.take_step.new.state ≤ next_most c.loop-line.state + 1 = line_rises c.line-item.result _ _ c.in_ok-take_step.ensures in
     (grind (arith, common_steps), omega (arith, rises, c.loop-line.invariant.1))
-
-pub returns : goal.returns
-returns c = grind (arith, common_steps)

@@ -1,4 +1,4 @@
-use Rattle.upd_apply.proofs.Common.{common_steps, arith, ◌&&◌, Bool, true, false, list_any, Ident, is_deck_kind, is_in}
+use Rattle.upd_apply.proofs.Common.{◌&&◌, Bool, true, false, list_any, Ident, is_deck_kind, is_in}
 use Rattle.upd_apply.proofs.Filtered.{filter_more}
 use Rattle.upd_apply.proofs.compile.decks_in_any.Goals as goal
 use Rattle.upd_apply.proofs.compile.decks_in_any.Goals.{then-is_deck_in_any+in_ok-push, else-is_deck_in_any}
@@ -12,6 +12,3 @@ loop-ident-preserved c =
       | else-is_deck_in_any w ↦ filter_more (λ i. i.age) test c.args.idents.now c.loop-ident.ident-index c.ident-item.result _ _ _ false
           c.loop-ident-test.true c.ident-item.is w.if-is_deck_in_any.ensures (cc) c.loop-ident.invariant
     ]
-
-pub returns : goal.returns
-returns c = grind (arith, common_steps)

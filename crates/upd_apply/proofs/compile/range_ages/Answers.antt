@@ -1,4 +1,4 @@
-use Rattle.upd_apply.proofs.Common.{◌≡◌, [], ◌∷◌, ap, sym, ◌∙◌, arith, Ok, Err, common_steps, ◌>>=◌, each_behind-none, each_more, each_refused, range_ages}
+use Rattle.upd_apply.proofs.Common.{◌≡◌, [], ◌∷◌, ap, sym, ◌∙◌, arith, Ok, Err, common_steps, ◌>>=◌, each_behind-none, each_refused, range_ages}
 use Rattle.upd_apply.proofs.compile.range_ages.Goals as goal
 
 pub loop-range-init : goal.loop-range-init
@@ -11,11 +11,3 @@ returns-in_err-ages c =
     let whole = each_refused (range_ages c.args.library.now) c.args.ranges.now c.loop-range.range-index c.range-item.result _ _ _
     c.loop-range-test.true c.range-item.is refused c.loop-range.invariant in
     grind (arith, common_steps, whole)
-
-pub loop-range-preserved : goal.loop-range-preserved
-loop-range-preserved c =
-    let gives : range_ages c.args.library.now c.range-item.result ≡ Ok (c.in_ok-ages.ages ∷ []) =
-    ap (λ r. r >>= (λ ages. Ok (ages ∷ []))) (sym c.deck_ages.ensures ∙ c.in_ok-ages.was) in
-    each_more (range_ages c.args.library.now) c.args.ranges.now c.loop-range.range-index c.range-item.result _ _ _ _
-    c.loop-range-test.true c.range-item.is gives
-    (cc (c.in_ok-push.ensures.items)) c.loop-range.invariant

@@ -1,4 +1,4 @@
-use Rattle.upd_apply.proofs.Common.{◌≡◌, [], ◌∷◌, arith, Ok, Err, common_steps, each_behind-none, each_more, each_refused, pair_ages}
+use Rattle.upd_apply.proofs.Common.{◌≡◌, arith, Err, common_steps, each_behind-none, each_refused, pair_ages}
 use Rattle.upd_apply.proofs.purges.pairs_purged.Goals as goal
 
 pub loop-pair-init : goal.loop-pair-init
@@ -10,9 +10,3 @@ returns-in_err-ages c =
     let whole = each_refused (pair_ages c.args.library.now) c.args.pairs.now c.loop-pair.pair-index c.pair-item.result _ _ _
     c.loop-pair-test.true c.pair-item.is refused c.loop-pair.invariant in
     grind (arith, common_steps, whole)
-
-pub loop-pair-preserved : goal.loop-pair-preserved
-loop-pair-preserved c =
-    let gives : pair_ages c.args.library.now c.pair-item.result ≡ Ok (c.in_ok-ages.ages ∷ []) = grind (arith, common_steps) in
-    each_more (pair_ages c.args.library.now) c.args.pairs.now c.loop-pair.pair-index c.pair-item.result _ _ _ _ c.loop-pair-test.true c.pair-item.is gives
-    (cc (c.in_ok-push.ensures.items)) c.loop-pair.invariant

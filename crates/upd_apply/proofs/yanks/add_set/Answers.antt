@@ -6,9 +6,6 @@ use Rattle.upd_apply.proofs.yanks.add_set.Goals as goal
 pub returns-in_ok-push-clause-set : goal.returns-in_ok-push-clause-set
 returns-in_ok-push-clause-set c = one_more is_same same_target _ _ (Set c.args.age) c.requires.apart (grind (arith, common_steps, c.requires.marked c.args.age))
 
-pub returns-in_ok-push-clause-marked : goal.returns-in_ok-push-clause-marked
-returns-in_ok-push-clause-marked c = grind (arith, common_steps)
-
 pub returns-else-not-has_set-clause-set : goal.returns-else-not-has_set-clause-set
 returns-else-not-has_set-clause-set c =
     one_more is_same same_target _ _ (Set c.args.age) c.requires.apart (grind (arith, common_steps, c.requires.marked c.args.age))

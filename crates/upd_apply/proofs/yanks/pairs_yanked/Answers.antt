@@ -1,14 +1,7 @@
-use Rattle.upd_apply.proofs.Common.{◌≡◌, ◌∷◌, [], arith, Ok, Err, common_steps, is_same, pair_targets}
-use Rattle.upd_apply.proofs.OnceLemmas.{once_more, once_once, once_refused}
+use Rattle.upd_apply.proofs.Common.{◌≡◌, ◌∷◌, [], arith, Ok, common_steps, is_same, pair_targets}
+use Rattle.upd_apply.proofs.OnceLemmas.{once_more, once_once}
 use Rattle.upd_apply.proofs.TargetLemmas.{same_target}
 use Rattle.upd_apply.proofs.yanks.pairs_yanked.Goals as goal
-
-pub returns-in_err-target : goal.returns-in_err-target
-returns-in_err-target c =
-    let refused : pair_targets c.args.set c.args.library.now c.pair-item.result ≡ Err c.in_err-target.field-0.0 = grind (arith, common_steps) in
-    let whole = once_refused is_same (pair_targets c.args.set c.args.library.now) c.args.pairs.now c.loop-pair.pair-index c.pair-item.result _ _ _
-    c.loop-pair-test.true c.pair-item.is refused c.loop-pair.invariant.named in
-    grind (arith, common_steps, whole)
 
 pub loop-pair-preserved : goal.loop-pair-preserved
 loop-pair-preserved c =

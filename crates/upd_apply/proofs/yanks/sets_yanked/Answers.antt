@@ -1,14 +1,7 @@
-use Rattle.upd_apply.proofs.Common.{◌≡◌, map, arith, Ok, Err, common_steps, Set, idents_in, is_same, range_targets}
-use Rattle.upd_apply.proofs.OnceLemmas.{once_more, once_once, once_refused}
+use Rattle.upd_apply.proofs.Common.{◌≡◌, map, arith, Ok, common_steps, Set, idents_in, is_same, range_targets}
+use Rattle.upd_apply.proofs.OnceLemmas.{once_more, once_once}
 use Rattle.upd_apply.proofs.TargetLemmas.{same_target}
 use Rattle.upd_apply.proofs.yanks.sets_yanked.Goals as goal
-
-pub returns-in_err-ages : goal.returns-in_err-ages
-returns-in_err-ages c =
-    let refused : range_targets c.args.set c.args.library.now c.range-item.result ≡ Err c.in_err-ages.field-0.0 = grind (arith, common_steps) in
-    let whole = once_refused is_same (range_targets c.args.set c.args.library.now) c.args.ranges.now c.loop-range.range-index c.range-item.result _ _ _
-    c.loop-range-test.true c.range-item.is refused c.loop-range.invariant.named in
-    grind (arith, common_steps, whole)
 
 pub loop-range-preserved : goal.loop-range-preserved
 loop-range-preserved c =
