@@ -35,6 +35,7 @@ pub fn untouched_cards_stood()
 {}
 
 /// The cards that are new or differ in status are at most as many as the run affects.
+#[tactic(auto, using(crate::proofs::RightLemmas::least_affected))]
 pub fn altered_cards_are_affected()
     ensures { (old new : LibraryView) → IsSound old → Continues old.idents new.idents →
         length (altered old new) ≤ length (affected (touched old new) old new) }
@@ -48,6 +49,7 @@ pub fn what_flipped_covers_is_reached()
 
 /// The active cards after a run can be made from a part of the library, a right cache and the active cards before the
 /// run, where the decks left out are as before.
+#[tactic(auto, using(crate::proofs::RenewLemmas::renewed_is))]
 pub fn renewed_active_cards_are_those_reached()
     ensures { (out : Serial → Bool) (old new : LibraryView) (cache : CacheView) → IsSound old → IsSound new → IsWhole new
         → IsRight new cache → AllByRecursion (IsAsBefore old new) (filter (λ d. out d.ident) new.decks)
