@@ -136,14 +136,6 @@ once_more same equal f xs i x found now more whole within read gives is so_far =
     ∙ sym (ap (λ r. (r >>= (λ more. each f (drop (i + 1) xs) >>= (λ last. Ok (more ++ last)))) >>= (λ last. Ok (once same (found ++ last)))) gives)
     ∙ sym (ap (λ ys. each f ys >>= (λ last. Ok (once same (found ++ last)))) (drop_more xs i x within ∙ ap (λ y. y ∷ drop (i + 1) xs) (sym read))) ∙ so_far
 
--- it is refused
-pub once_refused : {A B E : Type 0} (same : B → B → Bool) (f : A → Result (List B) E) (xs : List A) (i : ℕ) (x : A) (found : List B) (e : E)
-    (whole : Result (List B) E) → i < length xs → x ≡ get_or xs i x → f x ≡ Err e
-    → each f (drop i xs) >>= (λ last. Ok (once same (found ++ last))) ≡ whole → whole ≡ Err e
-once_refused same f xs i x found e whole within read gives so_far =
-    sym so_far ∙ ap (λ ys. each f ys >>= (λ last. Ok (once same (found ++ last)))) (drop_more xs i x within ∙ ap (λ y. y ∷ drop (i + 1) xs) (sym read))
-    ∙ ap (λ r. (r >>= (λ more. each f (drop (i + 1) xs) >>= (λ last. Ok (more ++ last)))) >>= (λ last. Ok (once same (found ++ last)))) gives
-
 -- ---- the turn of a loop that adds f and g of the element x, if x passes the test
 
 pub filter_once : {X Y A : Type 0} (same : A → A → Bool) → AreEqual same → (f : Y → A) (g : X → Y) (test : X → Bool) (xs : List X) (i : ℕ) (x : X)
