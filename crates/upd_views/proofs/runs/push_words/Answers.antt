@@ -3,8 +3,5 @@ use Rattle.std.proofs.lemmas.Grind.{common_steps}
 use Rattle.upd_views.proofs.OverviewWords.{words_in_turn}
 use Rattle.upd_views.proofs.runs.push_words.Goals as goal
 
-pub loop-item-preserved : goal.loop-item-preserved
-loop-item-preserved c = grind (arith, common_steps)
-
 pub returns : goal.returns
 returns c = rw (words_in_turn c.args.items.now) (grind (arith, common_steps))
