@@ -44,11 +44,6 @@ module _ (old last end : State) {X : Type 0} (x : X) (settled : IsTrue old.is_op
       (o, λ schema. is ∙ ap (λ (d : Database). d.trees) (still early o schema)))
       steps.survives s
 
--- what a transaction finds in the tables as it sees them, it finds in those of the last commit
-pub holds_begun : (old : State) → (IsTrue old.is_open → TablesRise old.now) → (IsTrue old.is_open → old.now ≡ old.committed) → IsTrue old.is_open
-    → (it : Rows) → ShowsTables it old.committed → HoldsTables it old.now
-holds_begun old rise settled o it shown = held library_schema (stored it) old.now (rise o) (subst (ShowsTables it) (sym (settled o)) shown)
-
 module _ (old last end : State) {X : Type 0} (x : X) (settled : IsTrue old.is_open → old.now ≡ old.committed)
     (m : Transforms {X = X} (HasEmptyTables 0) (HoldsTables no_rows) (record old { in_transaction = true }) last (Ok x)) where
   laid : HasCleanDisk last → IsTrue old.is_open → old.committed.schema ≡ no_schema → HoldsTables no_rows last.now

@@ -1,5 +1,5 @@
 -- What the tests of the texts say of the rows of records.
-use Rattle.upd_sql.proofs.Common.{◌≡◌, ℕ, ◌==◌, Bool, ◌&&◌, List, [], ◌∷◌, refl, ap₂, ◌∙◌, arith, bytes_eq, list_all, nat_tests, Null, Text, Row, Term, holds}
+use Rattle.upd_sql.proofs.Common.{◌≡◌, ℕ, ◌==◌, Bool, true, false, ◌&&◌, if◌then◌else◌, List, [], ◌∷◌, refl, ap₂, ◌∙◌, arith, bytes_eq, list_all, nat_tests, Null, Text, Row, Term, holds}
 use Rattle.upd_sql.proofs.Common.{Target, Set, SetIn, Deck, is_same, CardRow, EntryRow, TargetRow, RunView, StateRow, CountRow, MarkRow, same_ref}
 use Rattle.upd_sql.proofs.Common.{is_run, is_settled, is_mark_of, eq_text, eq_nat, one_test, two_tests, three_tests, num, target_code, card_row, entry_row}
 use Rattle.upd_sql.proofs.Common.{target_row, run_row, state_row, count_row, mark_row}
@@ -21,6 +21,14 @@ bytes_flip (x ∷ a) (y ∷ b) = ap₂ ◌&&◌ (nat_flip x y) (bytes_flip a b)
 
 pub nat_flip : (m n : ℕ) → (m == n) ≡ (n == m)
 nat_flip m n = grind (arith, nat_tests)
+
+pub grouped : (a b c : Bool) → (a && (b && c)) ≡ ((a && b) && c)
+grouped true b c = refl
+grouped false b c = refl
+
+pub both_if : {A : Type 0} (a b : Bool) (x y : A) → (if a && b then x else y) ≡ (if a then (if b then x else y) else y)
+both_if true b x y = refl
+both_if false b x y = refl
 
 -- the parameters that name a range of cards
 abbrev pub range_params : CardRange → Row

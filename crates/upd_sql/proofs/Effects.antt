@@ -1,263 +1,185 @@
 -- What each text that writes makes of the tables.
-use Rattle.upd_sql.proofs.Common.{◌≡◌, ℕ, ◌+◌, ◌-◌, ◌<◌, ◌^◌, ◌==◌, nat_le, pos, negsuc, Bool, true, false, not, ◌&&◌, if◌then◌else◌, List, [], ◌∷◌, ◌++◌}
-use Rattle.upd_sql.proofs.Common.{map, filter, codes, Ok, refl, sym, ap, ap₂, ◌∙◌, arith, IsTrue, length, ◌/◌, bytes_eq, AllByRecursion, Null, Text, Row, lit}
-use Rattle.upd_sql.proofs.Common.{col, eval_all, value_rows, State, Executes, Ident, Target, Set, SetIn, Deck, is_same, CardRow, EntryRow, TargetRow}
-use Rattle.upd_sql.proofs.Common.{RunView, StateRow, CountRow, MarkRow, Rows, same_ref, is_settled, is_mark_of, ident_columns, card_columns, entry_columns}
+use Rattle.upd_sql.proofs.Common.{◌≡◌, ℕ, ◌+◌, ◌-◌, ◌<◌, ◌^◌, ◌==◌, nat_le, pos, negsuc, false, ◌&&◌, if◌then◌else◌, List, [], ◌∷◌, ◌++◌}
+use Rattle.upd_sql.proofs.Common.{codes, Ok, Err, Result, Error, refl, ap, ap₂, ◌∙◌, arith, IsTrue, length, ◌/◌, bytes_eq, Null, Text, Row, value_rows}
+use Rattle.upd_sql.proofs.Common.{State, HasCleanDisk, Executes, IfOk, Ident, Target, Set, SetIn, Deck, is_same, CardRow, EntryRow, TargetRow}
+use Rattle.upd_sql.proofs.Common.{RunView, StateRow, CountRow, MarkRow, same_ref, is_settled, is_mark_of, ident_columns, card_columns, entry_columns}
 use Rattle.upd_sql.proofs.Common.{target_columns, run_columns, state_columns, count_columns, mark_columns, num, target_code, ident_row, card_row, entry_row}
-use Rattle.upd_sql.proofs.Common.{target_row, run_row, state_row, count_row, mark_row, stored, HoldsTables, all_weaker, cast_all, moved_row, restated}
-use Rattle.upd_sql.proofs.Common.{status_rows, eq_nat, eq_text, one_test, two_tests, three_tests, covers, with_moved}
+use Rattle.upd_sql.proofs.Common.{target_row, run_row, state_row, count_row, mark_row, HoldsTables, AnyTables, all_weaker, moved_row, restated, Ran, Makes}
+use Rattle.upd_sql.proofs.Common.{CountsStatuses, eq_nat, eq_text, one_test, two_tests, three_tests, covers, with_moved, CanMoveOf, done, Fits, CardsMoved}
+use Rattle.upd_sql.proofs.Common.{with_run, with_state, with_count, with_mark, with_restated, without_card_rows, without_states, without_count, without_mark}
+use Rattle.upd_sql.proofs.Common.{without_runs, and_parts}
 use Rattle.std.proofs.Common.{◌≤◌}
-use Rattle.upd_sql.proofs.Typed.{adds, removes, changes, changes_counted}
-use Rattle.upd_sql.proofs.Casts.{cast_ident, cast_card, cast_entry, cast_target, cast_run, cast_state, cast_count, cast_mark}
 use Rattle.sqlite_keyed.proofs.ListLemmas.{all_of}
-use Rattle.upd_records.specs.Changes.{purged_row}
-use Rattle.upd_sqlite.proofs.Tests.{ge_nat, add_nat, sub_nat}
-use Rattle.upd_sql.proofs.Conditions.{bytes_flip, passes, range_params, card_ranged, entry_ranged, target_ranged, state_ranged, state_told, count_named}
-use Rattle.upd_shifts.specs.Ranges.{in_range}
+use Rattle.sqlite_value.specs.declared.value.Value.{Value}
+use Rattle.upd_records.specs.Changes.{purged_row, IdentNew, IdentPurged, CardNew, EntryNew, TargetNew}
+use Rattle.upd_shifts.specs.Ranges.{in_range, without_rows}
 use Rattle.upd_shifts.specs.declared.ranges.CardRange.{CardRange}
-use Rattle.upd_sql.proofs.Conditions.{mark_named, run_settled}
+use Rattle.upd_shifts.specs.declared.ranges.CardRows.TheVariants.{Entries, Targets}
+use Rattle.upd_sqlite.proofs.Tests.{ge_nat, add_nat, sub_nat}
+use Rattle.sqlite_sql.specs.Ops.{binary}
+use Rattle.sqlite_sql.specs.declared.ops.ArithOp.TheVariants.{Add, Sub}
+use Rattle.sqlite_sql.specs.declared.ops.BinaryOp.TheVariants.{Arith}
+use Rattle.upd_shifts.specs.Shifts.{is_behind}
+use Rattle.upd_sql.proofs.Typed.{TableOf, table, adds, removes, changes, changes_counted}
+use Rattle.upd_sql.proofs.Casts.{cast_ident, cast_card, cast_entry, cast_target, cast_run, cast_state, cast_count, cast_mark}
+use Rattle.upd_sql.proofs.Conditions.{bytes_flip, passes, range_params, card_ranged, entry_ranged, target_ranged, state_ranged, state_told, count_named}
+use Rattle.upd_sql.proofs.Conditions.{mark_named, run_settled, grouped, both_if}
 use Rattle.upd_sql.proofs.WriteTexts as text
+use Rattle.upd_sql.specs.declared.texts.TheConstants as sql
 
-module _ (old new : State) (count : ℕ) (it : Rows) (h : HoldsTables it old.now) where
-  pub ident_added : (r : Ident) → Executes text.insert_ident (ident_row r) old new (Ok count) → HoldsTables (record it { idents = it.idents ++ r ∷ [] }) new.now
-  ident_added r ran = adds 1 2 (codes "idents") ident_columns (1 ∷ []) refl refl (λ _ _. refl) ident_row (stored it) it.idents refl text.insert_ident
-      (ident_row r) text.insert_ident_does.plain
-      old new count ran h (lit Null ∷ col 0 0 ∷ col 0 1 ∷ col 0 2 ∷ col 0 3 ∷ col 0 4 ∷ []) 6 text.insert_ident_does.is r
-      refl (cast_ident r)
+-- ---- the tables
 
-  pub card_added : (r : CardRow) → Executes text.insert_card (card_row r) old new (Ok count) → HoldsTables (record it { cards = it.cards ++ r ∷ [] }) new.now
-  card_added r ran = adds 2 4 (codes "cards") card_columns (1 ∷ 2 ∷ []) refl refl (λ _ _. refl) card_row (stored it) it.cards refl text.insert_card
-      (card_row r) text.insert_card_does.plain
-      old new count ran h (lit Null ∷ col 0 0 ∷ col 0 1 ∷ col 0 2 ∷ col 0 3 ∷ col 0 4 ∷ []) 6 text.insert_card_does.is r refl
-      (cast_card r)
+abbrev pub idents : TableOf Ident
+idents = table 1 2 (codes "idents") ident_columns (1 ∷ []) ident_row (λ it. it.idents) refl refl (λ _ _. refl) (λ it. refl) cast_ident
 
-  pub entry_added : (r : EntryRow) → Executes text.insert_entry (entry_row r) old new (Ok count)
-      → HoldsTables (record it { entries = it.entries ++ r ∷ [] }) new.now
-  entry_added r ran = adds 3 6 (codes "entries") entry_columns (1 ∷ 2 ∷ 3 ∷ []) refl refl (λ _ _. refl) entry_row
-      (stored it) it.entries refl text.insert_entry (entry_row r) text.insert_entry_does.plain old new count ran h
-      (lit Null ∷ col 0 0 ∷ col 0 1 ∷ col 0 2 ∷ col 0 3 ∷ col 0 4 ∷ []) 6 text.insert_entry_does.is r refl (cast_entry r)
+abbrev pub cards : TableOf CardRow
+cards = table 2 4 (codes "cards") card_columns (1 ∷ 2 ∷ []) card_row (λ it. it.cards) refl refl (λ _ _. refl) (λ it. refl) cast_card
 
-  pub target_added : (r : TargetRow) → Executes text.insert_target (target_row r) old new (Ok count)
-      → HoldsTables (record it { targets = it.targets ++ r ∷ [] }) new.now
-  target_added r ran = adds 4 8 (codes "targets") target_columns (1 ∷ 2 ∷ 3 ∷ []) refl refl (λ _ _. refl) target_row
-      (stored it) it.targets refl text.insert_target (target_row r) text.insert_target_does.plain old new count ran h
-      (lit Null ∷ col 0 0 ∷ col 0 1 ∷ col 0 2 ∷ col 0 3 ∷ col 0 4 ∷ col 0 5 ∷ []) 7 text.insert_target_does.is r (source r.target) (cast_target r)
+abbrev entries : TableOf EntryRow
+entries = table 3 6 (codes "entries") entry_columns (1 ∷ 2 ∷ 3 ∷ []) entry_row (λ it. it.entries) refl refl (λ _ _. refl) (λ it. refl) cast_entry
+
+abbrev targets : TableOf TargetRow
+targets = table 4 8 (codes "targets") target_columns (1 ∷ 2 ∷ 3 ∷ []) target_row (λ it. it.targets) refl refl (λ _ _. refl) (λ it. refl) cast_target
+
+abbrev runs : TableOf RunView
+runs = table 5 10 (codes "runs") run_columns (1 ∷ 2 ∷ []) run_row (λ it. it.runs) refl refl (λ _ _. refl) (λ it. refl) cast_run
+
+abbrev states : TableOf StateRow
+states = table 6 12 (codes "states") state_columns (1 ∷ 2 ∷ []) state_row (λ it. it.states) refl refl (λ _ _. refl) (λ it. refl) cast_state
+
+abbrev counts : TableOf CountRow
+counts = table 7 14 (codes "counts") count_columns (1 ∷ 2 ∷ 3 ∷ []) count_row (λ it. it.counts) refl refl (λ _ _. refl) (λ it. refl) cast_count
+
+abbrev settled : TableOf MarkRow
+settled = table 8 16 (codes "settled") mark_columns (1 ∷ []) mark_row (λ it. it.settled) refl refl (λ _ _. refl) (λ it. refl) cast_mark
+
+-- the row of a card that moved
+abbrev at_place : CardRow → Value → Row
+at_place c place = Text c.card.name ∷ num c.card.number ∷ num c.deck ∷ place ∷ Text c.body ∷ []
+
+back : (c : CardRow) (by : ℕ) → c.pos + by < 2 ^ 32 → at_place c (binary (Arith Add) (num c.pos) (num by)) ≡ card_row (record c { pos = c.pos + by })
+back c by low = ap (at_place c) (add_nat c.pos by (omega arith))
+
+forward : (c : CardRow) (by : ℕ) → by + 1 ≤ c.pos → c.pos < 2 ^ 32
+    → at_place c (binary (Arith Sub) (num c.pos) (num (by + 1))) ≡ card_row (record c { pos = c.pos - (by + 1) })
+forward c by room low = ap (at_place c) (sub_nat c.pos (by + 1) room (omega arith))
+
+module _ {X : Type 0} {old new : State} {r : Result X Error} where
+  -- ---- one row more
+
+  pub ident_added : (i : Ident) → Ran sql.INSERT_IDENT.now (ident_row i) old new r → Makes HoldsTables AnyTables (done (IdentNew i)) old new r
+  ident_added i ran = adds idents ran text.insert_ident i refl (λ it. refl)
+
+  pub card_added : (c : CardRow) → Ran sql.INSERT_CARD.now (card_row c) old new r
+      → Makes HoldsTables AnyTables (done (CardNew c.card c.deck c.pos c.body)) old new r
+  card_added c ran = adds cards ran text.insert_card c refl (λ it. refl)
+
+  pub entry_added : (e : EntryRow) → Ran sql.INSERT_ENTRY.now (entry_row e) old new r
+      → Makes HoldsTables AnyTables (done (EntryNew e.card e.ord e.entry)) old new r
+  entry_added e ran = adds entries ran text.insert_entry e refl (λ it. refl)
+
+  pub target_added : (e : TargetRow) → Ran sql.INSERT_TARGET.now (target_row e) old new r
+      → Makes HoldsTables AnyTables (done (TargetNew e.card e.ord e.target)) old new r
+  target_added e ran = adds targets ran text.insert_target e (source e.target) (λ it. refl)
     where
-      source : (t : Target) → value_rows (target_row (record r { target = t }) ++ []) 7
-          (length (lit Null ∷ col 0 0 ∷ col 0 1 ∷ col 0 2 ∷ col 0 3 ∷ col 0 4 ∷ col 0 5 ∷ []) / 7)
-          (lit Null ∷ col 0 0 ∷ col 0 1 ∷ col 0 2 ∷ col 0 3 ∷ col 0 4 ∷ col 0 5 ∷ []) ≡ (Null ∷ target_row (record r { target = t })) ∷ []
+      source : (t : Target) → value_rows (target_row (record e { target = t }) ++ []) 7 (length text.given_six / 7) text.given_six
+          ≡ (Null ∷ target_row (record e { target = t })) ∷ []
       source (Set z) = refl
       source (SetIn z d) = refl
       source (Deck d) = refl
 
-  pub run_added : (r : RunView) → Executes text.insert_run (run_row r) old new (Ok count) → HoldsTables (record it { runs = it.runs ++ r ∷ [] }) new.now
-  run_added r ran = adds 5 10 (codes "runs") run_columns (1 ∷ 2 ∷ []) refl refl (λ _ _. refl) run_row (stored it) it.runs refl text.insert_run
-      (run_row r) text.insert_run_does.plain
-      old new count ran h (lit Null ∷ col 0 0 ∷ col 0 1 ∷ col 0 2 ∷ col 0 3 ∷ col 0 4 ∷ col 0 5 ∷ []) 7 text.insert_run_does.is
-      r refl (cast_run r)
+  pub run_added : (run : RunView) → Ran sql.INSERT_RUN.now (run_row run) old new r → Makes HoldsTables AnyTables (with_run run) old new r
+  run_added run ran = adds runs ran text.insert_run run refl (λ it. refl)
 
-  pub state_added : (r : StateRow) → Executes text.insert_state (state_row r) old new (Ok count)
-      → HoldsTables (record it { states = it.states ++ r ∷ [] }) new.now
-  state_added r ran = adds 6 12 (codes "states") state_columns (1 ∷ 2 ∷ []) refl refl (λ _ _. refl) state_row (stored it) it.states refl text.insert_state
-      (state_row r) text.insert_state_does.plain
-      old new count ran h (lit Null ∷ col 0 0 ∷ col 0 1 ∷ col 0 2 ∷ []) 4 text.insert_state_does.is r refl (cast_state r)
+  pub state_added : (s : StateRow) → Ran sql.INSERT_STATE.now (state_row s) old new r
+      → Makes HoldsTables AnyTables (with_state s.card s.active) old new r
+  state_added s ran = adds states ran text.insert_state s refl (λ it. refl)
 
-  pub count_added : (r : CountRow) → Executes text.insert_count (count_row r) old new (Ok count)
-      → HoldsTables (record it { counts = it.counts ++ r ∷ [] }) new.now
-  count_added r ran = adds 7 14 (codes "counts") count_columns (1 ∷ 2 ∷ 3 ∷ []) refl refl (λ _ _. refl) count_row
-      (stored it) it.counts refl text.insert_count (count_row r) text.insert_count_does.plain old new count ran h
-      (lit Null ∷ col 0 0 ∷ col 0 1 ∷ col 0 2 ∷ col 0 3 ∷ []) 5 text.insert_count_does.is r (source r.target) (cast_count r)
+  pub count_added : (c : CountRow) → Ran sql.INSERT_COUNT.now (count_row c) old new r → Makes HoldsTables AnyTables (with_count c.target c.n) old new r
+  count_added c ran = adds counts ran text.insert_count c (source c.target) (λ it. refl)
     where
-      source : (t : Target) → value_rows (count_row (record r { target = t }) ++ []) 5 (length (lit Null ∷ col 0 0 ∷ col 0 1 ∷ col 0 2 ∷ col 0 3 ∷ []) / 5)
-          (lit Null ∷ col 0 0 ∷ col 0 1 ∷ col 0 2 ∷ col 0 3 ∷ []) ≡ (Null ∷ count_row (record r { target = t })) ∷ []
+      source : (t : Target) → value_rows (count_row (record c { target = t }) ++ []) 5 (length text.given_four / 5) text.given_four
+          ≡ (Null ∷ count_row (record c { target = t })) ∷ []
       source (Set z) = refl
       source (SetIn z d) = refl
       source (Deck d) = refl
 
-  pub mark_added : (r : MarkRow) → Executes text.insert_mark (mark_row r) old new (Ok count)
-      → HoldsTables (record it { settled = it.settled ++ r ∷ [] }) new.now
-  mark_added r ran = adds 8 16 (codes "settled") mark_columns (1 ∷ []) refl refl (λ _ _. refl) mark_row (stored it) it.settled refl text.insert_mark
-      (mark_row r) text.insert_mark_does.plain old new count ran h (lit Null ∷ col 0 0 ∷ col 0 1 ∷ []) 3 text.insert_mark_does.is r refl (cast_mark r)
+  pub mark_added : (m : MarkRow) → Ran sql.INSERT_MARK.now (mark_row m) old new r → Makes HoldsTables AnyTables (with_mark m.site m.mark) old new r
+  mark_added m ran = adds settled ran text.insert_mark m refl (λ it. refl)
 
-  pub cards_gone : (s : CardRange) → Executes text.delete_cards (range_params s) old new (Ok count)
-      → HoldsTables (record it { cards = filter (λ r. not (in_range s r.card)) it.cards }) new.now
-  cards_gone s ran =
-      removes 2 4 (codes "cards") card_columns (1 ∷ 2 ∷ []) refl refl (λ _ _. refl) card_row (stored it) it.cards refl text.delete_cards
-      (range_params s) text.delete_cards_does.plain old new count ran h text.range_tests text.delete_cards_does.is refl (λ r. in_range s r.card) (card_ranged s)
+  -- ---- rows removed
 
-  pub entries_gone : (s : CardRange) → Executes text.delete_entries (range_params s) old new (Ok count)
-      → HoldsTables (record it { entries = filter (λ r. not (in_range s r.card)) it.entries }) new.now
-  entries_gone s ran =
-      removes 3 6 (codes "entries") entry_columns (1 ∷ 2 ∷ 3 ∷ []) refl refl (λ _ _. refl) entry_row (stored it) it.entries refl text.delete_entries
-      (range_params s) text.delete_entries_does.plain old new count ran h text.range_tests text.delete_entries_does.is refl (λ r. in_range s r.card)
-      (entry_ranged s)
+  pub cards_gone : (s : CardRange) → Ran sql.DELETE_CARDS.now (range_params s) old new r
+      → Makes HoldsTables AnyTables (without_card_rows (in_range s)) old new r
+  cards_gone s ran = removes cards ran text.delete_cards refl (λ c. in_range s c.card) (card_ranged s) (λ it. refl)
 
-  pub targets_gone : (s : CardRange) → Executes text.delete_targets (range_params s) old new (Ok count)
-      → HoldsTables (record it { targets = filter (λ r. not (in_range s r.card)) it.targets }) new.now
-  targets_gone s ran =
-      removes 4 8 (codes "targets") target_columns (1 ∷ 2 ∷ 3 ∷ []) refl refl (λ _ _. refl) target_row (stored it) it.targets refl text.delete_targets
-      (range_params s) text.delete_targets_does.plain old new count ran h text.range_tests text.delete_targets_does.is refl (λ r. in_range s r.card)
-      (target_ranged s)
+  pub entries_gone : (s : CardRange) → Ran sql.DELETE_ENTRIES.now (range_params s) old new r
+      → Makes HoldsTables AnyTables (without_rows Entries (in_range s)) old new r
+  entries_gone s ran = removes entries ran text.delete_entries refl (λ e. in_range s e.card) (entry_ranged s) (λ it. refl)
 
-  pub states_gone : (s : CardRange) → Executes text.delete_states (range_params s) old new (Ok count)
-      → HoldsTables (record it { states = filter (λ r. not (in_range s r.card)) it.states }) new.now
-  states_gone s ran =
-      removes 6 12 (codes "states") state_columns (1 ∷ 2 ∷ []) refl refl (λ _ _. refl) state_row (stored it) it.states refl text.delete_states
-      (range_params s) text.delete_states_does.plain old new count ran h text.range_tests text.delete_states_does.is refl (λ r. in_range s r.card)
-      (state_ranged s)
+  pub targets_gone : (s : CardRange) → Ran sql.DELETE_TARGETS.now (range_params s) old new r
+      → Makes HoldsTables AnyTables (without_rows Targets (in_range s)) old new r
+  targets_gone s ran = removes targets ran text.delete_targets refl (λ e. in_range s e.card) (target_ranged s) (λ it. refl)
 
-  pub count_gone : (t : Target) → Executes text.delete_count (target_code t) old new (Ok count)
-      → HoldsTables (record it { counts = filter (λ r. not (is_same t r.target)) it.counts }) new.now
-  count_gone t ran =
-      removes 7 14 (codes "counts") count_columns (1 ∷ 2 ∷ 3 ∷ []) refl refl (λ _ _. refl) count_row (stored it) it.counts refl text.delete_count
-      (target_code t) text.delete_count_does.plain old new count ran h text.delete_count_tests text.delete_count_does.is refl (λ r. is_same t r.target)
-      (count_named t)
+  pub states_gone : (s : CardRange) → Ran sql.DELETE_STATES.now (range_params s) old new r
+      → Makes HoldsTables AnyTables (without_states (in_range s)) old new r
+  states_gone s ran = removes states ran text.delete_states refl (λ c. in_range s c.card) (state_ranged s) (λ it. refl)
 
-  pub mark_gone : (site : List ℕ) → Executes text.delete_mark (Text site ∷ []) old new (Ok count)
-      → HoldsTables (record it { settled = filter (λ r. not (is_mark_of site r)) it.settled }) new.now
-  mark_gone site ran =
-      removes 8 16 (codes "settled") mark_columns (1 ∷ []) refl refl (λ _ _. refl) mark_row (stored it) it.settled refl text.delete_mark
-      (Text site ∷ []) text.delete_mark_does.plain old new count ran h text.first_tests text.delete_mark_does.is refl (is_mark_of site) (mark_named site)
+  pub count_gone : (t : Target) → Ran sql.DELETE_COUNT.now (target_code t) old new r → Makes HoldsTables AnyTables (without_count t) old new r
+  count_gone t ran = removes counts ran text.delete_count refl (λ c. is_same t c.target) (count_named t) (λ it. refl)
 
-  pub runs_gone : (site : List ℕ) (number : ℕ) → Executes text.delete_runs (Text site ∷ num number ∷ []) old new (Ok count)
-      → HoldsTables (record it { runs = filter (λ r. not (is_settled site number r)) it.runs }) new.now
-  runs_gone site number ran =
-      removes 5 10 (codes "runs") run_columns (1 ∷ 2 ∷ []) refl refl (λ _ _. refl) run_row (stored it) it.runs refl text.delete_runs
-      (Text site ∷ num number ∷ []) text.delete_runs_does.plain
-      old new count ran h text.delete_runs_tests text.delete_runs_does.is refl (is_settled site number)
-      (run_settled site number)
+  pub mark_gone : (site : List ℕ) → Ran sql.DELETE_MARK.now (Text site ∷ []) old new r → Makes HoldsTables AnyTables (without_mark site) old new r
+  mark_gone site ran = removes settled ran text.delete_mark refl (is_mark_of site) (mark_named site) (λ it. refl)
 
-  pub ident_purged : (age : ℕ) → Executes text.purge_ident (num age ∷ []) old new (Ok count)
-      → HoldsTables (record it { idents = map (purged_row age) it.idents }) new.now
+  pub runs_gone : (site : List ℕ) (number : ℕ) → Ran sql.DELETE_RUNS.now (Text site ∷ num number ∷ []) old new r
+      → Makes HoldsTables AnyTables (without_runs site number) old new r
+  runs_gone site number ran = removes runs ran text.delete_runs refl (is_settled site number) (run_settled site number) (λ it. refl)
+
+  -- ---- rows changed in place
+
+  pub ident_purged : (age : ℕ) → Ran sql.PURGE_IDENT.now (num age ∷ []) old new r → Makes HoldsTables AnyTables (done (IdentPurged age)) old new r
   ident_purged age ran =
-      changes 1 2 (codes "idents") ident_columns (1 ∷ []) refl refl (λ _ _. refl) ident_row (stored it) it.idents refl text.purge_ident
-      (num age ∷ []) text.purge_ident_does.plain old new count ran h
-      text.first_tests text.purge_ident_news text.purge_ident_does.is refl refl (purged_row age) (all_of _ each it.idents)
+      changes idents ran text.purge_ident refl (λ i. i.age == age) (λ i. one_test (eq_nat i.age age)) refl (purged_row age) (λ i. record i { held = false })
+      (λ i. refl) (λ it fits. all_of _ (λ i there. refl) it.idents) (λ it. refl)
+
+  pub state_restated : (s : StateRow) → Ran sql.UPDATE_STATE.now (state_row s) old new r
+      → Makes HoldsTables AnyTables (with_restated s.card s.active) old new r
+  state_restated s ran =
+      changes states ran text.update_state refl (λ x. same_ref s.card x.card) (state_told s) refl (restated s.card s.active)
+      (λ x. record x { active = s.active }) (λ x. refl) (λ it fits. all_of _ (λ x there. refl) it.states) (λ it. refl)
+
+  pub cards_moved_back : (deck from by : ℕ) → Ran sql.MOVE_BACK.now (num deck ∷ num from ∷ num by ∷ []) old new r
+      → Makes HoldsTables (Fits (CardsMoved deck from (pos by))) (done (CardsMoved deck from (pos by))) old new r
+  cards_moved_back deck from by ran =
+      changes cards ran text.move_back refl (is_behind deck from) (λ c. two_tests (eq_nat c.deck deck) (ge_nat c.pos from)) refl
+      (moved_row deck from (pos by)) (λ c. record c { pos = c.pos + by }) (λ c. refl)
+      (λ it fits. all_weaker _ _ (λ c can there. back c by (can there)) it.cards fits) (λ it. refl)
+
+  pub cards_moved_up : (deck from by : ℕ) → Ran sql.MOVE_UP.now (num deck ∷ num from ∷ num (by + 1) ∷ []) old new r
+      → Makes HoldsTables (Fits (CardsMoved deck from (negsuc by))) (done (CardsMoved deck from (negsuc by))) old new r
+  cards_moved_up deck from by ran =
+      changes cards ran text.move_up refl (is_behind deck from) (λ c. two_tests (eq_nat c.deck deck) (ge_nat c.pos from)) refl
+      (moved_row deck from (negsuc by)) (λ c. record c { pos = c.pos - (by + 1) }) (λ c. refl)
+      (λ it fits. all_weaker _ _ (λ c can there. forward c by (can there).0 (can there).1) it.cards fits) (λ it. refl)
+
+  pub cards_moved_of : (e : List ℕ × ℕ) (deck from by : ℕ) → Ran sql.MOVE_BACK_OF.now (Text e.0 ∷ num e.1 ∷ num deck ∷ num from ∷ num by ∷ []) old new r
+      → Makes HoldsTables (CanMoveOf e deck from by) (with_moved e deck from by) old new r
+  cards_moved_of e deck from by ran =
+      changes cards ran text.move_back_of refl (λ c. covers e c.card && is_behind deck from c) holds refl
+      (λ c. if covers e c.card then moved_row deck from (pos by) c else c) (λ c. record c { pos = c.pos + by })
+      (λ c. both_if (covers e c.card) (is_behind deck from c) _ c)
+      (λ it fits. all_weaker _ _ (λ c can there. let are = and_parts _ _ there in back c by (can are.0 are.1)) it.cards fits) (λ it. refl)
     where
-      as_written : (b : Bool) (i : Ident) → (if b then cast_all ident_columns (ident_row (record i { held = false })) else ident_row i)
-          ≡ ident_row (if b then record i { held = false } else i)
-      as_written true i = cast_ident (record i { held = false })
-      as_written false i = refl
+      holds : (c : CardRow) → passes (Text e.0 ∷ num e.1 ∷ num deck ∷ num from ∷ num by ∷ []) text.move_back_of_tests (card_row c)
+          ≡ (covers e c.card && is_behind deck from c)
+      holds c =
+          ap₂ ◌&&◌ (eq_text c.card.name e.0 ∙ bytes_flip c.card.name e.0) (three_tests (ge_nat c.card.number e.1) (eq_nat c.deck deck) (ge_nat c.pos from))
+          ∙ grouped (bytes_eq e.0 c.card.name) (nat_le e.1 c.card.number) (is_behind deck from c)
 
-      each : (i : Ident) → (if passes (num age ∷ []) text.first_tests (ident_row i) then cast_all ident_columns
-          (ident_row (record i { held = false })) else ident_row i) ≡ ident_row (purged_row age i)
-      each i = ap (λ b. if b then cast_all ident_columns (ident_row (record i { held = false })) else ident_row i) (one_test (eq_nat i.age age))
-          ∙ as_written (i.age == age) i
-
-  pub state_restated : (r : StateRow) → Executes text.update_state (state_row r) old new (Ok count)
-      → HoldsTables (record it { states = map (restated r.card r.active) it.states }) new.now
-  state_restated r ran =
-      changes 6 12 (codes "states") state_columns (1 ∷ 2 ∷ []) refl refl (λ _ _. refl) state_row (stored it) it.states refl text.update_state
-      (state_row r) text.update_state_does.plain old new count ran h
-      text.card_tests text.update_state_news text.update_state_does.is refl refl (restated r.card r.active) (all_of _ each it.states)
-    where
-      as_written : (b : Bool) (s : StateRow) → (if b then cast_all state_columns (state_row (record s { active = r.active })) else state_row s)
-          ≡ state_row (if b then record s { active = r.active } else s)
-      as_written true s = cast_state (record s { active = r.active })
-      as_written false s = refl
-
-      each : (s : StateRow) → (if passes (state_row r) text.card_tests (state_row s) then cast_all state_columns
-          (state_row (record s { active = r.active })) else state_row s) ≡ state_row (restated r.card r.active s)
-      each s = ap (λ b. if b then cast_all state_columns (state_row (record s { active = r.active })) else state_row s) (state_told r s)
-          ∙ as_written (same_ref r.card s.card) s
-
-  pub states_counted : (r : StateRow) → Executes text.update_state (state_row r) old new (Ok count) → count ≡ length (status_rows r.card it.states)
-  states_counted r ran =
-      changes_counted 6 12 (codes "states") state_columns (1 ∷ 2 ∷ []) refl refl (λ _ _. refl) state_row (stored it) it.states refl text.update_state
-      (state_row r) text.update_state_does.plain old new count ran h
-      text.card_tests text.update_state_news text.update_state_does.is refl refl (λ s. same_ref r.card s.card) (state_told r)
-
-  -- the tests of both texts that move cards
-  holds_there : (deck from : ℕ) (by : ℕ) (r : CardRow) → passes (num deck ∷ num from ∷ num by ∷ []) text.place_tests (card_row r)
-      ≡ ((r.deck == deck) && nat_le from r.pos)
-  holds_there deck from by r = two_tests (eq_nat r.deck deck) (ge_nat r.pos from)
-
-  moves_to : (deck from : ℕ) (shift : ℕ → ℕ) (moved : Row → Row) (r : CardRow)
-      → (IsTrue ((r.deck == deck) && nat_le from r.pos) → moved (card_row r) ≡ card_row (record r { pos = shift r.pos })) → (b : Bool)
-      → b ≡ ((r.deck == deck) && nat_le from r.pos) → (if b then cast_all card_columns (moved (card_row r)) else card_row r)
-      ≡ card_row (if b then record r { pos = shift r.pos } else r)
-  moves_to deck from shift moved r h true e = ap (cast_all card_columns) (h (sym e)) ∙ cast_card (record r { pos = shift r.pos })
-  moves_to deck from shift moved r h false e = refl
-
-  pub cards_moved_back : (deck from by : ℕ) → AllByRecursion (λ r. IsTrue ((r.deck == deck) && nat_le from r.pos) → r.pos + by < 2 ^ 32) it.cards
-      → Executes text.move_back (num deck ∷ num from ∷ num by ∷ []) old new (Ok count)
-      → HoldsTables (record it { cards = map (moved_row deck from (pos by)) it.cards }) new.now
-  cards_moved_back deck from by fits ran =
-      changes 2 4 (codes "cards") card_columns (1 ∷ 2 ∷ []) refl refl (λ _ _. refl) card_row (stored it) it.cards refl text.move_back
-      (num deck ∷ num from ∷ num by ∷ []) text.move_back_does.plain old new count ran h
-      text.place_tests text.move_back_news text.move_back_does.is refl refl (moved_row deck from (pos by)) (all_weaker _ _ each it.cards fits)
-    where
-      sums : (r : CardRow) → r.pos + by < 2 ^ 32 → eval_all text.move_back_news ((num deck ∷ num from ∷ num by ∷ []) ∷ (Null ∷ card_row r) ∷ [])
-          ≡ card_row (record r { pos = r.pos + by })
-      sums r low = ap (λ v. Text r.card.name ∷ num r.card.number ∷ num r.deck ∷ v ∷ Text r.body ∷ []) (add_nat r.pos by (omega arith))
-
-      each : (r : CardRow) → (IsTrue ((r.deck == deck) && nat_le from r.pos) → r.pos + by < 2 ^ 32)
-          → (if passes (num deck ∷ num from ∷ num by ∷ []) text.place_tests (card_row r) then cast_all card_columns
-          (eval_all text.move_back_news ((num deck ∷ num from ∷ num by ∷ []) ∷ (Null ∷ card_row r) ∷ [])) else card_row r)
-          ≡ card_row (moved_row deck from (pos by) r)
-      each r fits = rw (holds_there deck from by r)
-          (moves_to deck from (λ p. p + by) (λ v. eval_all text.move_back_news ((num deck ∷ num from ∷ num by ∷ []) ∷ (Null ∷ v) ∷ [])) r
-          (λ there. sums r (fits there)) _ refl)
-
-  -- the tests of the text that moves the cards of an ident
-  holds_of : (e : List ℕ × ℕ) (deck from by : ℕ) (r : CardRow)
-      → passes (Text e.0 ∷ num e.1 ∷ num deck ∷ num from ∷ num by ∷ []) text.move_back_of_tests (card_row r)
-      ≡ (covers e r.card && ((r.deck == deck) && nat_le from r.pos))
-  holds_of e deck from by r =
-      ap₂ ◌&&◌ (eq_text r.card.name e.0 ∙ bytes_flip r.card.name e.0) (three_tests (ge_nat r.card.number e.1) (eq_nat r.deck deck) (ge_nat r.pos from))
-      ∙ grouped (bytes_eq e.0 r.card.name) (nat_le e.1 r.card.number) ((r.deck == deck) && nat_le from r.pos)
-    where
-      grouped : (a b c : Bool) → (a && (b && c)) ≡ ((a && b) && c)
-      grouped true b c = refl
-      grouped false b c = refl
-
-  pub cards_moved_of : (e : List ℕ × ℕ) (deck from by : ℕ)
-      → AllByRecursion (λ r. IsTrue (covers e r.card) → IsTrue ((r.deck == deck) && nat_le from r.pos) → r.pos + by < 2 ^ 32) it.cards
-      → Executes text.move_back_of (Text e.0 ∷ num e.1 ∷ num deck ∷ num from ∷ num by ∷ []) old new (Ok count)
-      → HoldsTables (with_moved e deck from by it) new.now
-  cards_moved_of e deck from by fits ran =
-      changes 2 4 (codes "cards") card_columns (1 ∷ 2 ∷ []) refl refl (λ _ _. refl) card_row (stored it) it.cards refl text.move_back_of
-      (Text e.0 ∷ num e.1 ∷ num deck ∷ num from ∷ num by ∷ []) text.move_back_of_does.plain old new count ran h
-      text.move_back_of_tests text.move_back_of_news text.move_back_of_does.is refl refl (λ r. if covers e r.card then moved_row deck from (pos by) r else r)
-      (all_weaker _ _ each it.cards fits)
-    where
-      params : Row
-      params = Text e.0 ∷ num e.1 ∷ num deck ∷ num from ∷ num by ∷ []
-
-      sums : (r : CardRow) → r.pos + by < 2 ^ 32 → eval_all text.move_back_of_news (params ∷ (Null ∷ card_row r) ∷ [])
-          ≡ card_row (record r { pos = r.pos + by })
-      sums r low = ap (λ v. Text r.card.name ∷ num r.card.number ∷ num r.deck ∷ v ∷ Text r.body ∷ []) (add_nat r.pos by (omega arith))
-
-      each : (r : CardRow) → (IsTrue (covers e r.card) → IsTrue ((r.deck == deck) && nat_le from r.pos) → r.pos + by < 2 ^ 32)
-          → (if passes params text.move_back_of_tests (card_row r) then cast_all card_columns
-          (eval_all text.move_back_of_news (params ∷ (Null ∷ card_row r) ∷ []))
-          else card_row r) ≡ card_row (if covers e r.card then moved_row deck from (pos by) r else r)
-      each r fits = rw (holds_of e deck from by r) (by_ident (covers e r.card) refl)
-        where
-          by_ident : (a : Bool) → covers e r.card ≡ a
-              → (if a && ((r.deck == deck) && nat_le from r.pos) then cast_all card_columns
-              (eval_all text.move_back_of_news (params ∷ (Null ∷ card_row r) ∷ []))
-              else card_row r) ≡ card_row (if a then moved_row deck from (pos by) r else r)
-          by_ident true is = moves_to deck from (λ p. p + by) (λ v. eval_all text.move_back_of_news (params ∷ (Null ∷ v) ∷ [])) r
-              (λ there. sums r (fits is there)) _ refl
-          by_ident false is = refl
-
-  pub cards_moved_up : (deck from by : ℕ) → AllByRecursion (λ r. IsTrue ((r.deck == deck) && nat_le from r.pos) → (by + 1 ≤ r.pos) × (r.pos < 2 ^ 32)) it.cards
-      → Executes text.move_up (num deck ∷ num from ∷ num (by + 1) ∷ []) old new (Ok count)
-      → HoldsTables (record it { cards = map (moved_row deck from (negsuc by)) it.cards }) new.now
-  cards_moved_up deck from by fits ran =
-      changes 2 4 (codes "cards") card_columns (1 ∷ 2 ∷ []) refl refl (λ _ _. refl) card_row (stored it) it.cards refl text.move_up
-      (num deck ∷ num from ∷ num (by + 1) ∷ []) text.move_up_does.plain old new count ran h
-      text.place_tests text.move_up_news text.move_up_does.is refl refl (moved_row deck from (negsuc by)) (all_weaker _ _ each it.cards fits)
-    where
-      rests : (r : CardRow) → by + 1 ≤ r.pos → r.pos < 2 ^ 32
-          → eval_all text.move_up_news ((num deck ∷ num from ∷ num (by + 1) ∷ []) ∷ (Null ∷ card_row r) ∷ []) ≡ card_row (record r { pos = r.pos - (by + 1) })
-      rests r room low = ap (λ v. Text r.card.name ∷ num r.card.number ∷ num r.deck ∷ v ∷ Text r.body ∷ []) (sub_nat r.pos (by + 1) room (omega arith))
-
-      each : (r : CardRow) → (IsTrue ((r.deck == deck) && nat_le from r.pos) → (by + 1 ≤ r.pos) × (r.pos < 2 ^ 32))
-          → (if passes (num deck ∷ num from ∷ num (by + 1) ∷ []) text.place_tests (card_row r) then cast_all card_columns
-          (eval_all text.move_up_news ((num deck ∷ num from ∷ num (by + 1) ∷ []) ∷ (Null ∷ card_row r) ∷ [])) else card_row r)
-          ≡ card_row (moved_row deck from (negsuc by) r)
-      each r fits = rw (holds_there deck from (by + 1) r)
-          (moves_to deck from (λ p. p - (by + 1)) (λ v. eval_all text.move_up_news ((num deck ∷ num from ∷ num (by + 1) ∷ []) ∷ (Null ∷ v) ∷ [])) r
-          (λ there. rests r (fits there).0 (fits there).1) _ refl)
+-- the number that the statement returns is that of the rows that pass its test
+pub states_counted : (old new : State) (s : StateRow) (r : Result ℕ Error)
+    → (HasCleanDisk new → IsTrue old.in_transaction → IfOk r (λ n. Executes sql.UPDATE_STATE.now (state_row s) old new (Ok n)))
+    → CountsStatuses s.card old new r
+states_counted old new s (Ok n) counted = λ clean inside it h.
+    changes_counted states _ text.update_state refl (λ x. same_ref s.card x.card) (state_told s) old new it n h (counted clean inside)
+states_counted old new s (Err e) counted = λ clean inside. tt

@@ -10,7 +10,6 @@ pub mod Effects
 pub mod Finds
 pub mod SchemaLemmas
 pub mod WholeLemmas
-pub mod Turns
 pub mod CommitLemmas
 pub mod Common
 pub mod MarkLemmas

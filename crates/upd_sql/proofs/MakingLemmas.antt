@@ -7,7 +7,7 @@ use Rattle.upd_sql.proofs.Common.{library_schema, no_rows, HasEmptyTables, Trans
 use Rattle.std.proofs.Common.{subst₂}
 use Rattle.sqlite_schema.specs.declared.command.Command.TheVariants.{CreateTable}
 use Rattle.upd_sql.specs.declared.texts.TheConstants.{CREATE_META, CREATE_IDENTS, CREATE_CARDS, CREATE_ENTRIES, CREATE_TARGETS, CREATE_RUNS, CREATE_STATES}
-use Rattle.upd_sql.specs.declared.texts.TheConstants.{CREATE_COUNTS, CREATE_SETTLED}
+use Rattle.upd_sql.specs.declared.texts.TheConstants.{CREATE_COUNTS, CREATE_SETTLED, INSERT_VERSION}
 use Rattle.upd_sqlite.proofs.Shapes.{creates}
 use Rattle.upd_sql.specs.Schema.{meta, idents, cards, entries, targets, runs, states, counts, settled, meta_columns}
 use Rattle.upd_sql.specs.Encoded.{version_row}
@@ -58,10 +58,10 @@ next_made n sql m old new count ran h =
     subst₂ (λ s rs. HoldsAllRows s rs new.now) m.next m.rows (creates (schema_up_to n) m.table old new (no_rows_in n) _ [] count m.defined m.lacks h w)
 
 -- the version is written
-pub version_written : (old new : State) (count : ℕ) → Executes text.insert_version [] old new (Ok count) → HasEmptyTables 9 old.now
+pub version_written : (old new : State) (count : ℕ) → Executes INSERT_VERSION.now [] old new (Ok count) → HasEmptyTables 9 old.now
     → HoldsTables no_rows new.now
 version_written old new count ran h =
-    let w = runs_as text.insert_version [] old new library_schema h.schema_is _ text.insert_version_does.is text.insert_version_does.plain count ran in
+    let w = runs_as INSERT_VERSION.now [] old new library_schema h.schema_is _ text.insert_version.is text.insert_version.plain count ran in
     subst (λ row. HoldsAllRows library_schema ((row ∷ []) ∷ [] ∷ [] ∷ [] ∷ [] ∷ [] ∷ [] ∷ [] ∷ [] ∷ []) new.now) (rw (cast_int (pos 3)) refl)
     (inserts library_schema 0 0 (codes "meta") meta_columns (1 ∷ []) refl refl (λ _ _. refl) old new (no_rows_in 9) _ [] count h
     (lit Null ∷ lit (Text (codes "version")) ∷ lit (Int (pos 3)) ∷ []) 3 (version_row 3) refl w)

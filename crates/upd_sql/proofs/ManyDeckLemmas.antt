@@ -1,12 +1,13 @@
 -- Plans one after another do to the tables what the moves of many decks do.
 use Rattle.upd_sql.proofs.Common.{◌≡◌, ℕ, ◌+◌, List, [], ◌∷◌, ◌++◌, map, Ok, refl, sym, ap, subst, ◌∙◌, arith, AllByRecursion, State, CardRow, Rows, done_all}
-use Rattle.upd_sql.proofs.Common.{ChangeView, HoldsTables, Makes, makes_as, makes_then}
+use Rattle.upd_sql.proofs.Common.{ChangeView, HoldsTables, Makes, Result, Error}
 use Rattle.std.proofs.Common.{IfSome, None, Option, Some}
 use Rattle.std.specs.List.{flat_map}
 use Rattle.upd_shifts.specs.declared.plans.DeckPlan.{DeckPlan}
 use Rattle.upd_shifts.specs.Plans.{DecksRise, IsPlan, planned}
 use Rattle.upd_shifts.specs.Shifts.{moved_all}
 use Rattle.upd_shifts.proofs.PlanLemmas.{plans_still}
+use Rattle.upd_sql.proofs.Typed.{makes_more}
 use Rattle.upd_sql.proofs.TogetherLemmas.{all_moved, done_parts, together}
 use Rattle.upd_sql.specs.ManyDecks.{AllCanPlan, DoAsPlanned, with_plans}
 use Rattle.upd_sql.specs.Moving.{AllCanShift, with_all_shifted}
@@ -21,16 +22,11 @@ plans_push : (ps : List DeckPlan) (p : DeckPlan) (it : Rows)
 plans_push [] p it = refl
 plans_push (q ∷ ps) p it = plans_push ps p (with_all_shifted q.deck q.from q.shifts.items it)
 
-pub one_planned : {X Y : Type 0} (ps : List DeckPlan) (p : DeckPlan) (a b c : State) (x : X) (y : Y)
-    → Makes {X = X} HoldsTables (AllCanPlan ps) (with_plans ps) a b (Ok x)
-    → Makes {X = Y} HoldsTables (AllCanShift p.deck p.from p.shifts.items) (with_all_shifted p.deck p.from p.shifts.items) b c (Ok y)
-    → Makes {X = X} HoldsTables (AllCanPlan (ps ++ p ∷ [])) (with_plans (ps ++ p ∷ [])) a c (Ok x)
-one_planned ps p a b c x y before after =
-    let whole = makes_as HoldsTables _ (AllCanPlan (ps ++ p ∷ [])) _ (with_plans (ps ++ p ∷ [])) a c (Ok y)
-    (can_push ps p) (plans_push ps p)
-    (makes_then HoldsTables (AllCanPlan ps) (AllCanShift p.deck p.from p.shifts.items) (with_plans ps) (with_all_shifted p.deck p.from p.shifts.items)
-    a b c x (Ok y) before after) in
-    record { steps = record { going = whole.steps.going; kept = whole.steps.kept; survives = whole.steps.survives }; made = whole.made }
+pub one_planned : {X Y : Type 0} (ps : List DeckPlan) (p : DeckPlan) {a b c : State} {x : X} {r : Result Y Error}
+    → Makes HoldsTables (AllCanPlan ps) (with_plans ps) a b (Ok x)
+    → Makes HoldsTables (AllCanShift p.deck p.from p.shifts.items) (with_all_shifted p.deck p.from p.shifts.items) b c r
+    → Makes HoldsTables (AllCanPlan (ps ++ p ∷ [])) (with_plans (ps ++ p ∷ [])) a c r
+one_planned ps p before after = makes_more (can_push ps p) (plans_push ps p) before after
 
 all_planned : (ps : List DeckPlan) (least : ℕ) (it : Rows) → DecksRise least ps → AllByRecursion (IsPlan it.cards) ps
     → AllCanPlan ps it × (with_plans ps it ≡ done_all (flat_map planned ps) it)

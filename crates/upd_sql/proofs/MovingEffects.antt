@@ -1,8 +1,7 @@
 -- What the texts of moves at many places find in the tables, and make of them.
-use Rattle.upd_sql.proofs.Common.{◌≡◌, ℕ, ◌+◌, ◌-◌, ◌<◌, ◌^◌, nat_le, pos, negsuc, Bool, true, false, ◌&&◌, if◌then◌else◌, List, [], ◌∷◌}
-use Rattle.upd_sql.proofs.Common.{map, filter, codes, Ok, refl, ap, ap₂, ◌∙◌, arith, IsTrue, bytes_eq, Int, Null, Text, Row}
-use Rattle.upd_sql.proofs.Common.{eval_all, State, Executes, Shown, CardRow, Rows, card_columns, num, card_row, stored, HoldsTables, all_weaker, cast_all}
-use Rattle.upd_sql.proofs.Common.{eq_nat, eq_text, two_tests, three_tests}
+use Rattle.upd_sql.proofs.Common.{◌≡◌, ℕ, ◌+◌, ◌-◌, ◌<◌, ◌^◌, nat_le, pos, negsuc, true, ◌&&◌, List, [], ◌∷◌, map, filter, refl, ap}
+use Rattle.upd_sql.proofs.Common.{ap₂, ◌∙◌, arith, bytes_eq, Int, Text, Row, State, Shown, CardRow, Rows, num, card_row, stored, HoldsTables, all_weaker}
+use Rattle.upd_sql.proofs.Common.{and_parts, eq_nat, eq_text, two_tests, three_tests, Result, Error, Ran, Makes}
 use Rattle.std.proofs.Common.{◌≤◌, ℤ, ◌+ℤ◌, nat_lt}
 use Rattle.std.proofs.lemmas.Bool.Decides.{nat_tests}
 use Rattle.std.proofs.lemmas.Int.{ints}
@@ -12,11 +11,11 @@ use Rattle.sqlite_sql.specs.Ops.{binary}
 use Rattle.upd_records.specs.Changes.{shifted}
 use Rattle.upd_records.specs.Fits.{CanMove}
 use Rattle.upd_shifts.specs.declared.shift.Shift.{Shift}
-use Rattle.upd_shifts.specs.Shifts.{CanShift, CanShiftRow, covers_by, is_behind, shifted_row, with_shifted}
+use Rattle.upd_shifts.specs.Shifts.{CanShift, covers_by, is_behind, shifted_row, with_shifted}
 use Rattle.upd_sqlite.proofs.Tests.{ge_nat, le_nat, add_nat}
 use Rattle.upd_sql.proofs.Typed.{changes, reads_exactly}
-use Rattle.upd_sql.proofs.Casts.{cast_card}
-use Rattle.upd_sql.proofs.Conditions.{bytes_flip, passes}
+use Rattle.upd_sql.proofs.Effects.{cards}
+use Rattle.upd_sql.proofs.Conditions.{both_if, bytes_flip, grouped, passes}
 use Rattle.upd_sql.proofs.ReadTexts.{five}
 use Rattle.upd_sql.proofs.WholeLemmas.{all_pass}
 use Rattle.upd_sql.proofs.WriteTexts.{place_tests}
@@ -57,38 +56,17 @@ module _ (deck from : ℕ) where
       reads_exactly 2 4 refl card_row (stored it) it.cards refl _ _ old new rows shown h place_tests five text.cards_behind refl refl
       (is_behind deck from) behind (λ r. refl)
 
-  module _ (s : Shift) where
-    covered : (r : CardRow) → passes (shift_params deck from s) text.move_shift_tests (card_row r) ≡ (covers_by s r.card && is_behind deck from r)
-    covered r =
-        ap₂ ◌&&◌ (eq_text r.card.name s.name ∙ bytes_flip r.card.name s.name)
-        (ap₂ ◌&&◌ (ge_nat r.card.number s.first) (three_tests (le_nat r.card.number s.last) (eq_nat r.deck deck) (ge_nat r.pos from)))
-        ∙ grouped (bytes_eq s.name r.card.name) (nat_le s.first r.card.number) (nat_le r.card.number s.last) (is_behind deck from r)
-      where
-        grouped : (a b c d : Bool) → (a && (b && (c && d))) ≡ ((a && (b && c)) && d)
-        grouped true true c d = refl
-        grouped true false c d = refl
-        grouped false b c d = refl
-
-    each : (r : CardRow) → CanShiftRow deck from s r
-        → (if passes (shift_params deck from s) text.move_shift_tests (card_row r) then cast_all card_columns
-        (eval_all text.move_shift_news (shift_params deck from s ∷ (Null ∷ card_row r) ∷ [])) else card_row r) ≡ card_row (shifted_row deck from s r)
-    each r can =
-        ap (λ b. if b then cast_all card_columns (eval_all text.move_shift_news (shift_params deck from s ∷
-        (Null ∷ card_row r) ∷ [])) else card_row r) (covered r)
-        ∙ go (covers_by s r.card) (is_behind deck from r) can
-      where
-        go : (a b : Bool) → (IsTrue a → IsTrue b → CanMove s.by r.pos)
-            → (if a && b then cast_all card_columns (eval_all text.move_shift_news (shift_params deck from s ∷ (Null ∷ card_row r) ∷ [])) else card_row r)
-            ≡ card_row (if a then (if b then record r { pos = shifted s.by r.pos } else r) else r)
-        go true true can =
-            ap (λ v. cast_all card_columns (Text r.card.name ∷ num r.card.number ∷ num r.deck ∷ v ∷ Text r.body ∷ [])) (sum_of s.by r.pos (can refl refl))
-            ∙ cast_card (record r { pos = shifted s.by r.pos })
-        go true false can = refl
-        go false b can = refl
-
-    pub shift_moved : (old new : State) (count : ℕ) (it : Rows) → CanShift deck from s it → (h : HoldsTables it old.now)
-        → Executes text.move_shift (shift_params deck from s) old new (Ok count) → HoldsTables (with_shifted deck from s it) new.now
-    shift_moved old new count it can h ran =
-        changes 2 4 (codes "cards") card_columns (1 ∷ 2 ∷ []) refl refl (λ _ _. refl) card_row (stored it) it.cards refl text.move_shift
-        (shift_params deck from s) text.move_shift_does.plain old new count ran h
-        text.move_shift_tests text.move_shift_news text.move_shift_does.is refl refl (shifted_row deck from s) (all_weaker _ _ each it.cards can)
+  pub shift_moved : {X : Type 0} {old new : State} {r : Result X Error} (s : Shift) → Ran sql.MOVE_SHIFT.now (shift_params deck from s) old new r
+      → Makes HoldsTables (CanShift deck from s) (with_shifted deck from s) old new r
+  shift_moved s ran =
+      changes cards ran text.move_shift refl (λ c. covers_by s c.card && is_behind deck from c) covered refl (shifted_row deck from s)
+      (λ c. record c { pos = shifted s.by c.pos }) (λ c. both_if (covers_by s c.card) (is_behind deck from c) _ c)
+      (λ it can. all_weaker _ _ (λ c can there. let are = and_parts _ _ there in
+      ap (λ v. Text c.card.name ∷ num c.card.number ∷ num c.deck ∷ v ∷ Text c.body ∷ []) (sum_of s.by c.pos (can are.0 are.1))) it.cards can) (λ it. refl)
+    where
+      covered : (c : CardRow) → passes (shift_params deck from s) text.move_shift_tests (card_row c) ≡ (covers_by s c.card && is_behind deck from c)
+      covered c =
+          ap₂ ◌&&◌ (eq_text c.card.name s.name ∙ bytes_flip c.card.name s.name)
+          (ap₂ ◌&&◌ (ge_nat c.card.number s.first) (three_tests (le_nat c.card.number s.last) (eq_nat c.deck deck) (ge_nat c.pos from))
+          ∙ grouped (nat_le s.first c.card.number) (nat_le c.card.number s.last) (is_behind deck from c))
+          ∙ grouped (bytes_eq s.name c.card.name) (nat_le s.first c.card.number && nat_le c.card.number s.last) (is_behind deck from c)

@@ -1,8 +1,8 @@
 -- The cards of one ident moved after those of another: at the end all have moved that are listed, each once.
 use Rattle.upd_sql.proofs.Common.{◌≡◌, ℕ, ◌+◌, ◌<◌, ◌^◌, ◌==◌, nat_le, pos, Bool, true, false, ◌&&◌, if◌then◌else◌, IsTrue, List, [], ◌∷◌, map, Result, Ok}
-use Rattle.upd_sql.proofs.Common.{Some, bytes_eq, refl, sym, ap, ◌∙◌, subst, BTreeMap, slice_cmp, AllByRecursion, IsStrictlySortedBy, keys_of, option_map_or}
+use Rattle.upd_sql.proofs.Common.{Some, bytes_eq, refl, sym, ap, ◌∙◌, BTreeMap, slice_cmp, AllByRecursion, IsStrictlySortedBy, keys_of, option_map_or}
 use Rattle.upd_sql.proofs.Common.{nat_cmp, and_parts, all_weaker, Error, State, CardRef, CardsMoved, moved_row, Fits, CardRow, Rows, MovesListed, Makes}
-use Rattle.upd_sql.proofs.Common.{makes_then, makes_as, HoldsTables, CanMoveOf, covers, with_moved, with_others_moved}
+use Rattle.upd_sql.proofs.Common.{HoldsTables, CanMoveOf, covers, with_moved, with_others_moved}
 use Rattle.std.proofs.Common.{◌||◌}
 use Rattle.std.specs.BTreeMap.{is_at}
 use Rattle.std.specs.List.{list_any}
@@ -15,7 +15,7 @@ use Rattle.sqlite_keyed.proofs.ListLemmas.{all_map}
 use Rattle.upd_row_store.specs.Movable.{is_listed}
 use Rattle.upd_row_store.proofs.TableLemmas.{same_bytes}
 use Rattle.upd_sql.proofs.Conditions.{bytes_flip}
-use Rattle.upd_sql.proofs.Typed.{survives_itself}
+use Rattle.upd_sql.proofs.Typed.{makes_more, makes_none}
 
 -- where an ident is in a list with a number that a card has or is after, an entry of the list covers the card
 covered : (es : List (List ℕ × ℕ)) (card : CardRef)
@@ -85,14 +85,7 @@ module _ (deck from n : ℕ) where
         go false is true h = absurd (let clash : true ≡ false = sym (covered movable.entries r.card (h refl)) ∙ is in cc)
 
     pub none_moved : {X : Type 0} (s : State) (x : X) → Makes {X = X} HoldsTables Can (with_others_moved movable.entries deck from n) s s (Ok x)
-    none_moved s x = record {
-      steps = record {
-        going = λ clean inside. inside;
-        kept = λ clean inside. record { was_open = λ o. o; committed = λ o. refl };
-        survives = survives_itself s _;
-      };
-      made = λ clean inside it can h. subst (λ cards. HoldsTables (record it { cards = cards }) s.now) (sym (at_first it.cards can.1)) h;
-    }
+    none_moved s x = makes_none s x (λ it can. ap (λ cards. record it { cards = cards }) (sym (at_first it.cards can.1)))
 
   module _ (e : List ℕ × ℕ) (es : List (List ℕ × ℕ)) (up : IsStrictlySortedBy (slice_cmp nat_cmp) (keys_of (e ∷ es))) where
     once : (card : CardRef) → covers e card ≡ true → list_any (λ f. covers f card) es ≡ false
@@ -130,11 +123,8 @@ module _ (deck from n : ℕ) where
             go false true is now = fit
             go false false is now = absurd (let clash : true ≡ false = sym now ∙ ap (covers e) (same_card r) ∙ is in cc)
 
-    pub one_moved : {X Y : Type 0} (movable : BTreeMap (List ℕ) ℕ) (a b c : State) (x : X) (r : Result Y Error)
-        → Makes {X = X} HoldsTables (Can movable) (with_others_moved (e ∷ es) deck from n) a b (Ok x)
+    pub one_moved : {X Y : Type 0} (movable : BTreeMap (List ℕ) ℕ) {a b c : State} {x : X} {r : Result Y Error}
+        → Makes HoldsTables (Can movable) (with_others_moved (e ∷ es) deck from n) a b (Ok x)
         → Makes HoldsTables (CanMoveOf e deck from n) (with_moved e deck from n) b c r
         → Makes HoldsTables (Can movable) (with_others_moved es deck from n) a c r
-    one_moved movable a b c x r p q =
-        makes_as HoldsTables _ (Can movable) _ (with_others_moved es deck from n) a c r (λ it can. (can, can_next it.cards can.0))
-        (λ it. ap (λ cards. record it { cards = cards }) (rows_next it.cards))
-        (makes_then HoldsTables (Can movable) (CanMoveOf e deck from n) (with_others_moved (e ∷ es) deck from n) (with_moved e deck from n) a b c x r p q)
+    one_moved movable p q = makes_more (λ it can. (can, can_next it.cards can.0)) (λ it. ap (λ cards. record it { cards = cards }) (rows_next it.cards)) p q

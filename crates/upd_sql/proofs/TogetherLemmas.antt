@@ -1,25 +1,24 @@
--- Shifts one after another do to the tables what moves do, where they do so to each row.
-use Rattle.upd_sql.proofs.Common.{◌≡◌, ℕ, true, false, List, [], ◌∷◌, ◌++◌, map, Result, Ok, Err, None, Some}
-use Rattle.upd_sql.proofs.Common.{refl, sym, ap, subst, ◌∙◌, AllByRecursion, all_weaker, map-map, Error, State, Rows, done, done_all}
-use Rattle.upd_sql.proofs.Common.{ChangeView, AllCanBeDone, HoldsTables, Makes, makes_then, makes_as, clean_before, steps_then, BTreeMap}
+-- Changes and shifts one after another, and shifts that do to the tables what moves do, where they do so to each row.
+use Rattle.upd_sql.proofs.Common.{◌≡◌, ℕ, ◌+◌, ◌<◌, true, List, [], ◌∷◌, ◌++◌, map, take, length, get_or, Result, Ok, None, Some, refl, sym, ap, subst, ◌∙◌}
+use Rattle.upd_sql.proofs.Common.{AllByRecursion, all_weaker, map-append, map-map, take_more, Error, State, Rows, done, done_all, change_view, ChangeView}
+use Rattle.upd_sql.proofs.Common.{AllCanBeDone, HoldsTables, Makes, clean_before, steps_then, BTreeMap}
 use Rattle.std.proofs.Common.{Option, IfSome}
 use Rattle.sqlite_keyed.proofs.ListLemmas.{all_map}
+use Rattle.upd_core.specs.declared.change.Change.{Change}
 use Rattle.upd_records.specs.Changes.{moved_row}
 use Rattle.upd_records.specs.Fits.{AllFit}
 use Rattle.upd_row_store.specs.Movable.{AllMoveListed}
 use Rattle.upd_shifts.specs.declared.moves.Move.{Move}
 use Rattle.upd_shifts.specs.declared.shift.Shift.{Shift}
 use Rattle.upd_shifts.specs.Shifts.{CanShift, CanShiftAll, as_change, moved_all, shifted_all, shifted_row, with_shifted}
+use Rattle.upd_sql.proofs.Typed.{makes_more, mapped_each}
 use Rattle.upd_sql.specs.Commits.{Looks}
+use Rattle.upd_sql.specs.Doable.{CanBeDone}
 use Rattle.upd_sql.specs.Moving.{AllCanShift, AllRight, MakesIf, with_all_shifted}
 
 mapped_id : {A : Type 0} (xs : List A) → map (λ x. x) xs ≡ xs
 mapped_id [] = refl
 mapped_id (x ∷ xs) = ap (λ l. x ∷ l) (mapped_id xs)
-
-mapped_each : {A B : Type 0} (f g : A → B) (xs : List A) → AllByRecursion (λ x. f x ≡ g x) xs → map f xs ≡ map g xs
-mapped_each f g [] h = refl
-mapped_each f g (x ∷ xs) h = ap (λ y. y ∷ map f xs) h.0 ∙ ap (λ l. g x ∷ l) (mapped_each f g xs h.1)
 
 -- what was found can be made, and does what is wanted
 pub made_found : {X Y : Type 0} (Can : Rows → Type 0) (change wanted : Rows → Rows) (a b c : State) (x : X) (y : Y)
@@ -46,16 +45,11 @@ module _ (deck from : ℕ) where
   shifted_push [] s it = refl
   shifted_push (t ∷ ss) s it = shifted_push ss s (with_shifted deck from t it)
 
-  pub one_shifted : {X Y : Type 0} (ss : List Shift) (s : Shift) (a b c : State) (x : X) (y : Y)
-      → Makes {X = X} HoldsTables (AllCanShift deck from ss) (with_all_shifted deck from ss) a b (Ok x)
-      → Makes {X = Y} HoldsTables (CanShift deck from s) (with_shifted deck from s) b c (Ok y)
-      → Makes {X = X} HoldsTables (AllCanShift deck from (ss ++ s ∷ [])) (with_all_shifted deck from (ss ++ s ∷ [])) a c (Ok x)
-  one_shifted ss s a b c x y p q =
-      let whole = makes_as HoldsTables _ (AllCanShift deck from (ss ++ s ∷ [])) _ (with_all_shifted deck from (ss ++ s ∷ [])) a c (Ok y)
-      (can_push ss s) (shifted_push ss s)
-      (makes_then HoldsTables (AllCanShift deck from ss) (CanShift deck from s) (with_all_shifted deck from ss) (with_shifted deck from s) a b c x
-      (Ok y) p q) in
-      record { steps = record { going = whole.steps.going; kept = whole.steps.kept; survives = whole.steps.survives }; made = whole.made }
+  pub one_shifted : {X Y : Type 0} (ss : List Shift) (s : Shift) {a b c : State} {x : X} {r : Result Y Error}
+      → Makes HoldsTables (AllCanShift deck from ss) (with_all_shifted deck from ss) a b (Ok x)
+      → Makes HoldsTables (CanShift deck from s) (with_shifted deck from s) b c r
+      → Makes HoldsTables (AllCanShift deck from (ss ++ s ∷ [])) (with_all_shifted deck from (ss ++ s ∷ [])) a c r
+  one_shifted ss s p q = makes_more (can_push ss s) (shifted_push ss s) p q
 
   -- ---- row by row
 
@@ -102,70 +96,6 @@ pub on_some : {A : Type 0} {P Q : A → Type 0} (o : Option A) → IfSome o P �
 on_some None h f = tt
 on_some (Some x) h f = f x h
 
--- what is found, by other words
-pub looks_as : {X Y : Type 0} (F : Rows → X → Type 0) (G : Rows → Y → Type 0) (a b : State) (x : X) (y : Y) → ((it : Rows) → F it x → G it y)
-    → Looks F a b (Ok x) → Looks G a b (Ok y)
-looks_as F G a b x y f looks = record {
-  steps = record { going = looks.steps.going; kept = looks.steps.kept; survives = looks.steps.survives };
-  was_open = looks.was_open;
-  same = looks.same;
-  found = λ clean it h. f it (looks.found clean it h);
-}
-
-pub looks_err : {X Y : Type 0} (F : Rows → X → Type 0) (G : Rows → Y → Type 0) (a b : State) (e d : Error) → Looks F a b (Err e) → Looks G a b (Err d)
-looks_err F G a b e d looks = record {
-  steps = record { going = looks.steps.going; kept = looks.steps.kept; survives = looks.steps.survives };
-  was_open = looks.was_open;
-  same = looks.same;
-  found = λ clean. tt;
-}
-
-module _ (change : Rows → Rows) where
-  -- nothing was made
-  pub not_made : {X : Type 0} (F : Rows → X → Type 0) (a b : State) (x : X) → Looks F a b (Ok x) → MakesIf change a b (Ok false)
-  not_made F a b x looks = record {
-    steps = record { going = looks.steps.going; kept = looks.steps.kept; survives = looks.steps.survives };
-    made = λ clean inside it h. subst (HoldsTables it) (sym (looks.same clean h.schema_is)) h;
-  }
-
-  -- what was tried failed
-  pub failed_look : {X : Type 0} (F : Rows → X → Type 0) (a b : State) (e d : Error) → Looks F a b (Err e) → MakesIf change a b (Err d)
-  failed_look F a b e d looks = record {
-    steps = record { going = looks.steps.going; kept = looks.steps.kept; survives = looks.steps.survives };
-    made = λ clean. tt;
-  }
-
-  pub failed_then : {X Y : Type 0} (F : Rows → X → Type 0) (G : Rows → Type 0) (g : Rows → Rows) (a b c : State) (x : X) (e d : Error) → Looks F a b (Ok x)
-      → Makes {X = Y} HoldsTables G g b c (Err e) → MakesIf change a c (Err d)
-  failed_then F G g a b c x e d looks q = record {
-    steps = let all = steps_then a b c x (Err e) looks.steps q.steps in record { going = all.going; kept = all.kept; survives = all.survives };
-    made = λ clean. tt;
-  }
-
-  -- it is answered that it was made
-  pub if_made : {X : Type 0} (F : Rows → Type 0) (a b : State) (x : X) → MakesIf change a b (Ok true) → Makes {X = X} HoldsTables F change a b (Ok x)
-  if_made F a b x p = record {
-    steps = record { going = p.steps.going; kept = p.steps.kept; survives = p.steps.survives };
-    made = λ clean inside it fits h. p.made clean inside it h;
-  }
-
-  pub if_failed : {X : Type 0} (F : Rows → Type 0) (a b : State) (e d : Error) → MakesIf change a b (Err e) → Makes {X = X} HoldsTables F change a b (Err d)
-  if_failed F a b e d p = record {
-    steps = record { going = p.steps.going; kept = p.steps.kept; survives = p.steps.survives };
-    made = λ clean. tt;
-  }
-
-  -- it is answered that it was not made, and it is made then
-  pub made_after : {X : Type 0} (F : Rows → Type 0) (a b c : State) (r : Result X Error) → MakesIf change a b (Ok false) → Makes HoldsTables F change b c r
-      → Makes HoldsTables F change a c r
-  made_after F a b c (Ok x) p q = record {
-    steps = steps_then a b c false (Ok x) p.steps q.steps;
-    made = λ clean inside it fits h.
-        let early = clean_before b c _ q.steps.survives clean in
-        q.made clean (p.steps.going early inside) it fits (p.made early inside it h);
-  }
-  made_after F a b c (Err e) p q = record { steps = steps_then a b c false (Err e) p.steps q.steps; made = λ clean. tt }
-
 -- ---- changes part by part
 
 fits_parts : (cs ds : List ChangeView) (it : Rows) → AllFit (cs ++ ds) it → AllFit cs it × AllFit ds (done_all cs it)
@@ -190,11 +120,25 @@ done_parts [] ds it = refl
 done_parts (c ∷ cs) ds it = done_parts cs ds (done c it)
 
 -- some changes more
-pub part_made : {X Y : Type 0} (movable : Option (BTreeMap (List ℕ) ℕ)) (cs ds : List ChangeView) (a b c : State) (x : X) (y : Y)
-    → Makes {X = X} HoldsTables (AllCanBeDone movable cs) (done_all cs) a b (Ok x)
-    → Makes {X = Y} HoldsTables (AllCanBeDone movable ds) (done_all ds) b c (Ok y)
-    → Makes {X = X} HoldsTables (AllCanBeDone movable (cs ++ ds)) (done_all (cs ++ ds)) a c (Ok x)
-part_made movable cs ds a b c x y p q =
-    let whole = makes_as HoldsTables _ (AllCanBeDone movable (cs ++ ds)) _ (done_all (cs ++ ds)) a c (Ok y) (can_parts movable cs ds) (done_parts cs ds)
-    (makes_then HoldsTables (AllCanBeDone movable cs) (AllCanBeDone movable ds) (done_all cs) (done_all ds) a b c x (Ok y) p q) in
-    record { steps = record { going = whole.steps.going; kept = whole.steps.kept; survives = whole.steps.survives }; made = whole.made }
+pub part_made : {X Y : Type 0} (movable : Option (BTreeMap (List ℕ) ℕ)) (cs ds : List ChangeView) {a b c : State} {x : X} {r : Result Y Error}
+    → Makes HoldsTables (AllCanBeDone movable cs) (done_all cs) a b (Ok x)
+    → Makes HoldsTables (AllCanBeDone movable ds) (done_all ds) b c r
+    → Makes HoldsTables (AllCanBeDone movable (cs ++ ds)) (done_all (cs ++ ds)) a c r
+part_made movable cs ds p q = makes_more (can_parts movable cs ds) (done_parts cs ds) p q
+
+-- one change more
+pub one_made : {X Y : Type 0} (movable : Option (BTreeMap (List ℕ) ℕ)) (cs : List ChangeView) (d : ChangeView) {a b c : State} {x : X} {r : Result Y Error}
+    → Makes HoldsTables (AllCanBeDone movable cs) (done_all cs) a b (Ok x)
+    → Makes HoldsTables (CanBeDone movable d) (done d) b c r
+    → Makes HoldsTables (AllCanBeDone movable (cs ++ d ∷ [])) (done_all (cs ++ d ∷ [])) a c r
+one_made movable cs d p q = makes_more
+    (λ it h. let parts = can_parts movable cs (d ∷ []) it h in (parts.0, alone movable (done_all cs it) parts.1)) (done_parts cs (d ∷ [])) p q
+  where
+    alone : (movable : Option (BTreeMap (List ℕ) ℕ)) (it : Rows) → AllCanBeDone movable (d ∷ []) it → CanBeDone movable d it
+    alone None it h = h.0
+    alone (Some movable) it h = (h.0.0, h.1.0)
+
+pub seen_more : (changes : List Change) (i : ℕ) (c : Change) → i < length changes → c ≡ get_or changes i c
+    → map change_view (take (i + 1) changes) ≡ map change_view (take i changes) ++ change_view c ∷ []
+seen_more changes i c within is =
+    ap (map change_view) (take_more changes i c within ∙ ap (λ x. take i changes ++ x ∷ []) (sym is)) ∙ map-append change_view (take i changes) (c ∷ [])

@@ -1,5 +1,5 @@
 use Rattle.upd_sql.proofs.Common.{rules, state, HasEmptyTables, no_rows, HoldsTables}
-use Rattle.upd_sql.proofs.WriteTexts.{insert_version}
+use Rattle.upd_sql.specs.declared.texts.TheConstants.{INSERT_VERSION}
 use Rattle.upd_sql.proofs.MakingLemmas.{transforms_from, version_written}
 use Rattle.upd_sql.proofs.make.insert_version.Goals as goal
 
@@ -9,6 +9,6 @@ returns-clause-transforms g c = record {
   does =
       let old = state g.S.Store c.args.tx.now.conn.now in
       let new = state g.S.Store c.run.new.tx.conn.now in
-      transforms_from (HasEmptyTables 9) (HoldsTables no_rows) insert_version old new c.run.result c.run.ensures.ran
+      transforms_from (HasEmptyTables 9) (HoldsTables no_rows) INSERT_VERSION.now old new c.run.result c.run.ensures.ran
       (λ count ran h. version_written old new count ran h);
 }

@@ -2,7 +2,8 @@ use Rattle.upd_sql.proofs.Common.{◌≡◌, map, List, Ok, subst, ◌∙◌, st
 use Rattle.std.proofs.Common.{IfSome}
 use Rattle.upd_shifts.specs.declared.plans.DeckPlan.{DeckPlan}
 use Rattle.upd_sql.specs.ManyDecks.{AllCanPlan, DoAsPlanned, with_plans}
-use Rattle.upd_sql.proofs.TogetherLemmas.{looks_as, made_found}
+use Rattle.upd_sql.proofs.WholeLemmas.{looks_as}
+use Rattle.upd_sql.proofs.TogetherLemmas.{made_found}
 use Rattle.upd_sql.proofs.many_decks.move_decks.Goals as goal
 
 pub returns-in_ok-move_planned-in-Some : goal.returns-in_ok-move_planned-in-Some

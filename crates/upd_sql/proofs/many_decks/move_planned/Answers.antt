@@ -19,7 +19,7 @@ loop-plan-preserved g c =
     let step = subst (λ (ss : List Shift). Makes HoldsTables (AllCanShift p.deck p.from ss) (with_all_shifted p.deck p.from ss) mid new
     (Ok c.in_ok-move_shifts.field-0))
     c.deref.ensures.value c.in_ok-move_shifts.ensures.does in
-    let made = one_planned before p old mid new tt c.in_ok-move_shifts.field-0 c.loop-plan.invariant.1 step in (
+    let made = one_planned before p c.loop-plan.invariant.1 step in (
       c.in_ok-move_shifts.ensures.same_reference ∙ c.loop-plan.invariant.0,
       subst (λ (ps : List DeckPlan). Makes {X = Unit {0}} HoldsTables (AllCanPlan ps) (with_plans ps) old new (Ok tt)) (sym more) made,
     )

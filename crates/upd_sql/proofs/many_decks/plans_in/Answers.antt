@@ -3,7 +3,7 @@ use Rattle.std.proofs.Common.{IfSome}
 use Rattle.upd_shifts.specs.Plans.{IsPlan}
 use Rattle.upd_sql.specs.ManyDecks.{DoAsPlanned}
 use Rattle.upd_sql.proofs.ManyDeckLemmas.{do_as_planned, on_all}
-use Rattle.upd_sql.proofs.TogetherLemmas.{looks_as}
+use Rattle.upd_sql.proofs.WholeLemmas.{looks_as}
 use Rattle.upd_sql.proofs.many_decks.plans_in.Goals as goal
 
 pub returns : goal.returns

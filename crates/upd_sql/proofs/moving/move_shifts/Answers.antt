@@ -15,8 +15,7 @@ loop-shift-preserved g c =
     let new = state g.S.Store c.move_shift.new.tx.conn.now in
     let before = take i shifts in
     let more = take_more shifts i s c.loop-shift-test.true ∙ ap (λ x. before ++ x ∷ []) (sym c.shift-item.is) in
-    let made = one_shifted deck from before s old (state g.S.Store c.loop-shift.tx.conn.now) new tt c.in_ok-move_shift.field-0
-    c.loop-shift.invariant.1 c.in_ok-move_shift.ensures.does in (
+    let made = one_shifted deck from before s c.loop-shift.invariant.1 c.in_ok-move_shift.ensures.does in (
       c.in_ok-move_shift.ensures.same_reference ∙ c.loop-shift.invariant.0,
       subst (λ (ss : List Shift). Makes {X = Unit {0}} HoldsTables (AllCanShift deck from ss) (with_all_shifted deck from ss) old new (Ok tt)) (sym more) made,
     )

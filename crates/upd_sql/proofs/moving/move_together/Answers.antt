@@ -2,7 +2,8 @@ use Rattle.upd_sql.proofs.Common.{List, Ok, subst, ◌∙◌, state, Makes, Hold
 use Rattle.std.proofs.Common.{IfSome}
 use Rattle.upd_shifts.specs.declared.shift.Shift.{Shift}
 use Rattle.upd_sql.specs.Moving.{AllCanShift, AllRight, with_all_shifted}
-use Rattle.upd_sql.proofs.TogetherLemmas.{looks_as, made_together}
+use Rattle.upd_sql.proofs.WholeLemmas.{looks_as}
+use Rattle.upd_sql.proofs.TogetherLemmas.{made_together}
 use Rattle.upd_sql.proofs.moving.move_together.Goals as goal
 
 pub returns-in_ok-move_shifts-in-Some : goal.returns-in_ok-move_shifts-in-Some

@@ -17,8 +17,7 @@ loop-range-preserved g c =
     let new = state g.S.Store c.remove_range.new.tx.conn.now in
     let before = take i ranges in
     let more = take_more ranges i range c.loop-range-test.true ∙ ap (λ x. before ++ x ∷ []) (sym c.range-item.is) in
-    let made = one_removed which before range old (state g.S.Store c.loop-range.tx.conn.now) new tt c.in_ok-remove_range.field-0
-    c.loop-range.invariant.1 c.in_ok-remove_range.ensures.does in (
+    let made = one_removed which before range c.loop-range.invariant.1 c.in_ok-remove_range.ensures.does in (
       c.in_ok-remove_range.ensures.same_reference ∙ c.loop-range.invariant.0,
       subst (λ (rs : List CardRange). Makes {X = Unit {0}} HoldsTables AnyTables (without_rows which (in_ranges rs)) old new (Ok tt)) (sym more) made,
     )

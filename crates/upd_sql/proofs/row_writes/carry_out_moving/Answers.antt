@@ -21,8 +21,7 @@ loop-at-preserved g c =
     let movable = option_copied c.args.movable in
     let old = state g.S.Store c.args.tx.now.conn.now in
     let new = state g.S.Store c.carry_out_part.new.tx.conn.now in
-    let made = part_made movable before part old (state g.S.Store c.loop-at.tx.conn.now) new tt c.in_ok-carry_out_part.field-0 c.loop-at.invariant.2
-    c.in_ok-carry_out_part.ensures.does in (
+    let made = part_made movable before part c.loop-at.invariant.2 c.in_ok-carry_out_part.ensures.does in (
       bound,
       c.in_ok-carry_out_part.ensures.same_reference ∙ c.loop-at.invariant.1,
       subst (λ (cs : List ChangeView). Makes {X = Unit {0}} HoldsTables (AllCanBeDone movable cs) (done_all cs) old new (Ok tt)) (sym more) made,

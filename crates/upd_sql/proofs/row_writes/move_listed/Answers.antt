@@ -33,7 +33,7 @@ loop-ident-preserved g c =
     c.loop-ident.invariant.2 in (
       c.in_ok-move_back_of.ensures.same_reference ∙ c.loop-ident.invariant.0,
       sorted_tail (slice_cmp nat_cmp) e.0 (keys_of es) up,
-      one_moved c.args.deck c.args.from c.args.by e es up c.args.movable.now old mid new tt (Ok tt) before c.in_ok-move_back_of.ensures.does,
+      one_moved c.args.deck c.args.from c.args.by e es up c.args.movable.now before c.in_ok-move_back_of.ensures.does,
     )
 
 pub returns : goal.returns
