@@ -15,7 +15,6 @@ pub use Rattle.sqlite_keyed.proofs.ListLemmas.{all_weaker, filter-map, filter_sa
 pub use Rattle.sqlite_rules.specs.Cast.{cast_all}
 pub use Rattle.sqlite_schema.specs.declared.command.Command.TheVariants.{Delete, Insert, Update}
 pub use Rattle.sqlite_schema.specs.declared.command.Source.TheVariants.{Values}
-pub use Rattle.sqlite_sql.specs.Query.{sort_cmp}
 pub use Rattle.sqlite_sql.specs.Term.{Term, col, eval_all, holds, lit, op2}
 pub use Rattle.sqlite_sql.specs.declared.ops.BinaryOp.TheVariants.{Compare}
 pub use Rattle.sqlite_sql.specs.declared.ops.CompareOp.TheVariants.{Eq}
@@ -31,7 +30,7 @@ pub use Rattle.upd_core.specs.declared.target.Target.{Target}
 pub use Rattle.upd_core.specs.declared.target.Target.TheVariants.{Deck, Set, SetIn}
 pub use Rattle.upd_records.specs.Changes.{change_view, done_all, moved_row, restated, status_rows}
 pub use Rattle.upd_records.specs.Fits.{Fits}
-pub use Rattle.upd_records.specs.Rows.{CountRow, MarkRow, RunView, StateRow}
+pub use Rattle.upd_records.specs.Rows.{CountRow, IsSame, MarkRow, RunView, StateRow}
 pub use Rattle.upd_row_store.proofs.Common.{◌==◌, ◌^◌, CardRow, CardsMoved, ChangeView, EntryRow, Err, Ok, Result, Rows, TargetRow, done, nat_cmp, nat_le}
 pub use Rattle.upd_row_store.proofs.Common.{same_ref, slice_cmp}
 pub use Rattle.upd_row_store.specs.Movable.{MovesListed}
@@ -40,7 +39,6 @@ pub use Rattle.upd_sql.specs.Commits.{CountsStatuses, MayCommit, MayKeep, WasOpe
 pub use Rattle.upd_sql.specs.Doable.{AllCanBeDone}
 pub use Rattle.upd_sql.specs.Encoded.{card_row, count_row, entry_row, ident_row, mark_row, num, run_row, state_row, stored, target_code, target_row}
 pub use Rattle.upd_sql.specs.LibraryTables.{AnyTables, HoldsTables}
-pub use Rattle.upd_sql.specs.Listed.{AreInOrder, in_any_order}
 pub use Rattle.upd_sql.specs.Making.{HasEmptyTables, MayMake, Transforms, no_rows}
 pub use Rattle.upd_sql.specs.RowEdits.{CanMoveOf, covers, with_count, with_mark, with_moved, with_others_moved, with_restated, with_state, without_card_rows}
 pub use Rattle.upd_sql.specs.RowEdits.{without_count, without_mark, without_runs, without_states}

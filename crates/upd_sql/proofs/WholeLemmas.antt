@@ -1,19 +1,19 @@
 -- Reading whole tables: the rows of an answer are the table's, in any order, and each is read as the record that it stores.
 use Rattle.upd_sql.proofs.Common.{◌≡◌, ℕ, ◌+◌, ◌<◌, true, List, [], ◌∷◌, ◌++◌, map, filter, take, length, get_or, Result, Ok, Err, refl, sym, ap, ap₂, subst}
-use Rattle.upd_sql.proofs.Common.{◌==◌, ◌&&◌, nat_le, Bool, false, EntryRow, holds, filter_same}
-use Rattle.upd_sql.proofs.Common.{◌∙◌, arith, IfOk, list_all, nat_tests, take_more, get_or-map, length-map, Null, Row, Key, sort_cmp, Term}
+use Rattle.upd_sql.proofs.Common.{◌==◌, ◌&&◌, nat_le, Bool, false, EntryRow, filter_same}
+use Rattle.upd_sql.proofs.Common.{◌∙◌, arith, IfOk, list_all, nat_tests, take_more, get_or-map, length-map, Null, Row, Term}
 use Rattle.upd_sql.proofs.Common.{eval_all, Error, Database, State, Shown, map-map, Target, Set, SetIn, Deck, Rows, TargetRow}
 use Rattle.sqlite.specs.Listing.{understood}
-use Rattle.upd_sql.proofs.Common.{state_pair, count_pair, rows_at, is_lone, clean_before, steps_then, library_schema, AreInOrder}
-use Rattle.upd_sql.proofs.Common.{in_any_order, num, ident_row, card_row, entry_row, target_row, run_row, state_row, mark_row, stored, HoldsTables}
-use Rattle.std.proofs.Common.{◌||◌, cond, nat_lt, Ordering}
+use Rattle.upd_sql.proofs.Common.{state_pair, count_pair, rows_at, is_lone, clean_before, steps_then, library_schema, IsSame}
+use Rattle.upd_sql.proofs.Common.{num, ident_row, card_row, entry_row, target_row, run_row, state_row, mark_row, stored, HoldsTables}
+use Rattle.std.proofs.Common.{◌||◌, cond, nat_lt}
 use Rattle.std.specs.List.{count_by}
 use Rattle.sqlite.specs.Given.{IsPlain}
-use Rattle.upd_records.specs.Rows.{IsSame}
 use Rattle.upd_records.proofs.CountLemmas.{count_append, count_cons, count_filter, same_append, same_of, same_trans}
 use Rattle.upd_sql.specs.Commits.{IsAnswered, Looks}
 use Rattle.upd_sql.specs.Encoded.{kept_state, kept_count}
-use Rattle.upd_sql.proofs.Listed.{lists, ordered_as}
+use Rattle.upd_sql.proofs.Listed.{lists}
+use Rattle.upd_sql.proofs.Conditions.{passes}
 use Rattle.upd_sql.proofs.Bare.{is_bare}
 use Rattle.upd_sql.proofs.ReadTexts.{Reads, two, three, four, five, six}
 use Rattle.upd_sql.proofs.ReadTexts.{all_idents, all_cards, all_targets, all_states, all_counts, runs_in_turn, marks_in_turn}
@@ -56,47 +56,39 @@ count_whole c = by c.0
 
 module _ (old new : State) (it : Rows) (h : HoldsTables it old.now) (rows : List Row) where
   -- the records of a whole table
-  abbrev Answers : {X : Type 0} → List ℕ → (X → Row) → (X → X → Ordering) → List X → Type 0
-  Answers sql row cmp xs = Shown sql [] old new rows → (us : List _) × (rows ≡ map row us) × AreInOrder cmp xs us
+  abbrev Answers : {X : Type 0} → List ℕ → (X → Row) → List X → Type 0
+  Answers sql row xs = Shown sql [] old new rows → (us : List _) × (rows ≡ map row us) × IsSame us xs
 
   whole : (k tree : ℕ) (alone : is_lone tree k library_schema.tables ≡ true) {X : Type 0} (row : X → Row) (xs : List X)
-      (are : rows_at k (stored it) ≡ map row xs)
-      (sql : List ℕ) (shown : List Term) (order : List (Term × Key)) (cmp : X → X → Ordering) → Reads sql tree [] shown order → list_all is_bare shown ≡ true
-      → list_all is_bare (map (λ o. o.0) order) ≡ true → ((x : X) → eval_all shown ([] ∷ (Null ∷ row x) ∷ []) ≡ row x)
-      → ((x y : X) → sort_cmp order ([] ∷ (Null ∷ row x) ∷ []) ([] ∷ (Null ∷ row y) ∷ []) ≡ cmp x y) → Answers sql row cmp xs
-  whole k tree alone row xs are sql shown order cmp query bare bare_order kept up answer =
-      let found = lists k tree alone row row (stored it) xs are sql [] old new rows answer h [] shown order
-      query refl bare bare_order (λ _. true) (λ x. refl) kept in
-      (found.0, found.1, ordered_as _ cmp _ xs found.0 up (all_pass xs) found.2)
+      (are : rows_at k (stored it) ≡ map row xs) (sql : List ℕ) (shown : List Term) → Reads sql tree [] shown [] → list_all is_bare shown ≡ true
+      → ((x : X) → eval_all shown ([] ∷ (Null ∷ row x) ∷ []) ≡ row x) → Answers sql row xs
+  whole k tree alone row xs are sql shown query bare kept answer =
+      let found = lists k tree alone row (stored it) xs are sql [] old new rows answer h [] shown query refl bare (λ _. true) (λ x. refl) kept in
+      (found.0, found.1, subst (IsSame found.0) (all_pass xs) found.2)
 
-  pub idents_listed : Answers sql.ALL_IDENTS.now ident_row in_any_order it.idents
-  idents_listed = whole 1 2 refl ident_row it.idents refl _ five [] in_any_order all_idents refl refl (λ x. refl) (λ x y. refl)
+  pub idents_listed : Answers sql.ALL_IDENTS.now ident_row it.idents
+  idents_listed = whole 1 2 refl ident_row it.idents refl _ five all_idents refl (λ x. refl)
 
-  pub cards_listed : Answers sql.ALL_CARDS.now card_row in_any_order it.cards
-  cards_listed = whole 2 4 refl card_row it.cards refl _ five [] in_any_order all_cards refl refl (λ x. refl) (λ x y. refl)
+  pub cards_listed : Answers sql.ALL_CARDS.now card_row it.cards
+  cards_listed = whole 2 4 refl card_row it.cards refl _ five all_cards refl (λ x. refl)
 
   pub entries_listed : (ord : ℕ) (sql : List ℕ) (tests : List Term) (test : EntryRow → Bool) → Reads sql 6 tests five [] → list_all is_bare tests ≡ true
-      → ((e : EntryRow) → list_all (holds ((num ord ∷ []) ∷ (Null ∷ entry_row e) ∷ [])) tests ≡ test e) → Shown sql (num ord ∷ []) old new rows
-      → (us : List EntryRow) × (rows ≡ map entry_row us) × AreInOrder in_any_order (filter test it.entries) us
+      → ((e : EntryRow) → passes (num ord ∷ []) tests (entry_row e) ≡ test e) → Shown sql (num ord ∷ []) old new rows
+      → (us : List EntryRow) × (rows ≡ map entry_row us) × IsSame us (filter test it.entries)
   entries_listed ord sql tests test query bare means answer =
-      lists 3 6 refl entry_row entry_row (stored it) it.entries refl sql (num ord ∷ []) old new rows answer h tests five [] query bare refl refl test means
-      (λ e. refl)
+      lists 3 6 refl entry_row (stored it) it.entries refl sql (num ord ∷ []) old new rows answer h tests five query bare refl test means (λ e. refl)
 
-  pub targets_listed : Answers sql.ALL_TARGETS.now target_row in_any_order it.targets
-  targets_listed = whole 4 8 refl target_row it.targets refl _ six [] in_any_order all_targets refl refl target_whole (λ x y. refl)
+  pub targets_listed : Answers sql.ALL_TARGETS.now target_row it.targets
+  targets_listed = whole 4 8 refl target_row it.targets refl _ six all_targets refl target_whole
 
-  pub state_rows_listed : Answers sql.ALL_STATES.now state_row in_any_order it.states
-  state_rows_listed = whole 6 12 refl state_row it.states refl _ three [] in_any_order all_states refl refl (λ x. refl) (λ x y. refl)
+  pub state_rows_listed : Answers sql.ALL_STATES.now state_row it.states
+  state_rows_listed = whole 6 12 refl state_row it.states refl _ three all_states refl (λ x. refl)
 
-  pub states_listed : Answers sql.ALL_STATES.now kept_state in_any_order (map state_pair it.states)
-  states_listed = whole 6 12 refl kept_state (map state_pair it.states) (sym (map-map kept_state state_pair it.states))
-      _ three [] in_any_order all_states refl refl
-      (λ x. refl) (λ x y. refl)
+  pub states_listed : Answers sql.ALL_STATES.now kept_state (map state_pair it.states)
+  states_listed = whole 6 12 refl kept_state (map state_pair it.states) (sym (map-map kept_state state_pair it.states)) _ three all_states refl (λ x. refl)
 
-  pub counts_listed : Answers sql.ALL_COUNTS.now kept_count in_any_order (map count_pair it.counts)
-  counts_listed = whole 7 14 refl kept_count (map count_pair it.counts) (sym (map-map kept_count count_pair it.counts))
-      _ four [] in_any_order all_counts refl refl
-      count_whole (λ x y. refl)
+  pub counts_listed : Answers sql.ALL_COUNTS.now kept_count (map count_pair it.counts)
+  counts_listed = whole 7 14 refl kept_count (map count_pair it.counts) (sym (map-map kept_count count_pair it.counts)) _ four all_counts refl count_whole
 
   pub runs_turned : Shown sql.RUNS_IN_TURN.now [] old new rows → rows ≡ map run_row it.runs
   runs_turned shown =
@@ -198,13 +190,10 @@ module _ {X : Type 0} (p q r : X → Bool) (once : (x : X) → cond (r x) 1 0 �
   }
 
 pub one_part_more : (ord : ℕ) (es found part next : List EntryRow) → ord < 3 → next ≡ found ++ part
-    → AreInOrder in_any_order (filter (is_before ord) es) found → AreInOrder in_any_order (filter (λ e. e.ord == ord) es) part
-    → AreInOrder in_any_order (filter (is_before (ord + 1)) es) next
-one_part_more ord es found part next few grown p q = record {
-  same = same_trans (same_of next (found ++ part) grown)
-      (same_trans (same_append p.same q.same) (parted (is_before ord) (λ e. e.ord == ord) (is_before (ord + 1)) (λ e. once e.ord) es));
-  sorted = λ k d low high. refl;
-}
+    → IsSame found (filter (is_before ord) es) → IsSame part (filter (λ e. e.ord == ord) es) → IsSame next (filter (is_before (ord + 1)) es)
+one_part_more ord es found part next few grown p q =
+    same_trans (same_of next (found ++ part) grown)
+    (same_trans (same_append p q) (parted (is_before ord) (λ e. e.ord == ord) (is_before (ord + 1)) (λ e. once e.ord) es))
   where
     once : (n : ℕ) → cond (nat_le 3 n || nat_lt n (ord + 1)) 1 0 ≡ cond (nat_le 3 n || nat_lt n ord) 1 0 + cond (n == ord) 1 0
     once n = grind (arith, nat_tests, few)

@@ -3,7 +3,6 @@ pub mod Encoded
 pub mod LibraryTables
 pub mod RowEdits
 pub mod Commits
-pub mod Listed
 pub mod Part
 pub mod First
 pub mod Making

@@ -6,13 +6,11 @@ ghost use Rattle.sqlite.specs.Held.{state};
 ghost use Rattle.sqlite.specs.Listing.{understood};
 ghost use Rattle.sqlite.specs.State.{Shown};
 ghost use Rattle.sqlite.specs.Values.{bound};
-ghost use Rattle.std.specs.declared.cmp.Ordering.{Ordering};
-ghost use Rattle.upd_records.specs.Rows.{Rows};
+ghost use Rattle.upd_records.specs.Rows.{IsSame, Rows};
 ghost use Rattle.upd_row_store.specs.Assembling.{AreRowsOf};
 ghost use Rattle.upd_row_store.specs.Tables.{AreByKey, AreRead, ListsRuns, count_pair, state_pair};
 ghost use Rattle.upd_sql.specs.Commits.{Inside, IsAnswered, Looks};
 ghost use Rattle.upd_sql.specs.LibraryTables.{HoldsTables};
-ghost use Rattle.upd_sql.specs.Listed.{AreInOrder, in_any_order};
 ghost use Rattle.upd_sql.specs.Part.{AreActiveRows};
 ghost use Rattle.upd_sql.specs.Schema.{library_schema};
 
@@ -52,24 +50,24 @@ fn all_of<S: Alter, T: Record + Drop>(
     sql: &str,
     params: &[ValueRef<'_>],
 ) -> Result<Vec<T>, Error>
-    ensures { (listed : Rows → List T) (cmp : T → T → Ordering) → IsPlain (understood library_schema sql.now)
+    ensures { (listed : Rows → List T) → IsPlain (understood library_schema sql.now)
         → ((it : Rows) → HoldsTables it (state S.Store tx.old.conn.now).now → (rows : List SqlRow)
         → Shown sql.now (bound params.now) (state S.Store tx.old.conn.now) (state S.Store tx.new.conn.now) rows
-        → (kept : List T) × (rows ≡ map T.stored kept) × AreInOrder cmp (listed it) kept)
-        → Inside (state S.Store) (Looks (λ it found. AreInOrder cmp (listed it) found.items)) tx.old.conn tx.new.conn result }
+        → (kept : List T) × (rows ≡ map T.stored kept) × IsSame kept (listed it))
+        → Inside (state S.Store) (Looks (λ it found. IsSame found.items (listed it))) tx.old.conn tx.new.conn result }
 {
     let rows = rows_of(tx, sql, params)?;
     each(alloc, &rows)
 }
 
 fn idents_in<S: Alter>(tx: &mut Transaction<'_, S>, alloc: Global) -> Result<Vec<Ident>, Error>
-    ensures { Inside (state S.Store) (Looks (λ it found. AreInOrder in_any_order it.idents found.items)) tx.old.conn tx.new.conn result }
+    ensures { Inside (state S.Store) (Looks (λ it found. IsSame found.items it.idents)) tx.old.conn tx.new.conn result }
 {
     all_of(tx, alloc, texts::ALL_IDENTS, &[])
 }
 
 fn cards_in<S: Alter>(tx: &mut Transaction<'_, S>, alloc: Global) -> Result<Vec<CardRow>, Error>
-    ensures { Inside (state S.Store) (Looks (λ it found. AreInOrder in_any_order it.cards found.items)) tx.old.conn tx.new.conn result }
+    ensures { Inside (state S.Store) (Looks (λ it found. IsSame found.items it.cards)) tx.old.conn tx.new.conn result }
 {
     all_of(tx, alloc, texts::ALL_CARDS, &[])
 }
@@ -80,7 +78,7 @@ fn entries_at<S: Alter>(
     alloc: Global,
     ord: u32,
 ) -> Result<Vec<EntryRow>, Error>
-    ensures { Inside (state S.Store) (Looks (λ it found. AreInOrder in_any_order (filter (λ e. e.ord == ord) it.entries) found.items))
+    ensures { Inside (state S.Store) (Looks (λ it found. IsSame found.items (filter (λ e. e.ord == ord) it.entries)))
         tx.old.conn tx.new.conn result }
 {
     all_of(tx, alloc, texts::ENTRIES_AT, &[values::number(ord)])
@@ -92,7 +90,7 @@ fn entries_from<S: Alter>(
     alloc: Global,
     ord: u32,
 ) -> Result<Vec<EntryRow>, Error>
-    ensures { Inside (state S.Store) (Looks (λ it found. AreInOrder in_any_order (filter (λ e. nat_le ord e.ord) it.entries) found.items))
+    ensures { Inside (state S.Store) (Looks (λ it found. IsSame found.items (filter (λ e. nat_le ord e.ord) it.entries)))
         tx.old.conn tx.new.conn result }
 {
     all_of(tx, alloc, texts::ENTRIES_FROM, &[values::number(ord)])
@@ -101,7 +99,7 @@ fn entries_from<S: Alter>(
 /// All entries, read in parts: an answer's rows take many times the memory of its entries, and those of one part are let go
 /// before the next is asked.
 fn entries_in<S: Alter>(tx: &mut Transaction<'_, S>, alloc: Global) -> Result<Vec<EntryRow>, Error>
-    ensures { Inside (state S.Store) (Looks (λ it found. AreInOrder in_any_order it.entries found.items)) tx.old.conn tx.new.conn result }
+    ensures { Inside (state S.Store) (Looks (λ it found. IsSame found.items it.entries)) tx.old.conn tx.new.conn result }
 {
     let mut found = entries_from(tx, alloc, 3)?;
     for ord in 0..3 {
@@ -112,7 +110,7 @@ fn entries_in<S: Alter>(tx: &mut Transaction<'_, S>, alloc: Global) -> Result<Ve
 }
 
 fn targets_in<S: Alter>(tx: &mut Transaction<'_, S>, alloc: Global) -> Result<Vec<TargetRow>, Error>
-    ensures { Inside (state S.Store) (Looks (λ it found. AreInOrder in_any_order it.targets found.items)) tx.old.conn tx.new.conn result }
+    ensures { Inside (state S.Store) (Looks (λ it found. IsSame found.items it.targets)) tx.old.conn tx.new.conn result }
 {
     all_of(tx, alloc, texts::ALL_TARGETS, &[])
 }
@@ -121,7 +119,7 @@ fn state_rows_in<S: Alter>(
     tx: &mut Transaction<'_, S>,
     alloc: Global,
 ) -> Result<Vec<StateRow>, Error>
-    ensures { Inside (state S.Store) (Looks (λ it found. AreInOrder in_any_order it.states found.items)) tx.old.conn tx.new.conn result }
+    ensures { Inside (state S.Store) (Looks (λ it found. IsSame found.items it.states)) tx.old.conn tx.new.conn result }
 {
     all_of(tx, alloc, texts::ALL_STATES, &[])
 }
@@ -130,7 +128,7 @@ fn states_in<S: Alter>(
     tx: &mut Transaction<'_, S>,
     alloc: Global,
 ) -> Result<Vec<(CardRef, bool)>, Error>
-    ensures { Inside (state S.Store) (Looks (λ it found. AreInOrder in_any_order (map state_pair it.states) found.items))
+    ensures { Inside (state S.Store) (Looks (λ it found. IsSame found.items (map state_pair it.states)))
         tx.old.conn tx.new.conn result }
 {
     all_of(tx, alloc, texts::ALL_STATES, &[])
@@ -140,7 +138,7 @@ fn counts_in<S: Alter>(
     tx: &mut Transaction<'_, S>,
     alloc: Global,
 ) -> Result<Vec<(Target, u32)>, Error>
-    ensures { Inside (state S.Store) (Looks (λ it found. AreInOrder in_any_order (map count_pair it.counts) found.items))
+    ensures { Inside (state S.Store) (Looks (λ it found. IsSame found.items (map count_pair it.counts)))
         tx.old.conn tx.new.conn result }
 {
     all_of(tx, alloc, texts::ALL_COUNTS, &[])

@@ -1,5 +1,4 @@
-use Rattle.upd_sql.proofs.Common.{◌≡◌, ◌==◌, ◌+◌, ◌++◌, ◌∙◌, ap, arith, filter, refl, rules, state, AreInOrder, in_any_order}
-use Rattle.upd_sql.proofs.Listed.{ordered_as}
+use Rattle.upd_sql.proofs.Common.{◌≡◌, ◌==◌, ◌+◌, ◌++◌, ◌∙◌, ap, arith, filter, rules, state, subst, IsSame}
 use Rattle.upd_sql.proofs.WholeLemmas.{all_parts, is_before, looks_as, looks_more, one_part_more}
 use Rattle.upd_sql.proofs.whole.entries_in.Goals as goal
 
@@ -13,9 +12,9 @@ loop-ord-preserved g c =
     let part = c.in_ok-part.part in
     let grown : c.append.new.self.items ≡ found.items ++ part.items = search rules in (
       c.in_ok-part.ensures.same_reference ∙ c.loop-ord.invariant.0,
-      looks_more (λ it x. AreInOrder in_any_order (filter (is_before ord) it.entries) x.items)
-          (λ it x. AreInOrder in_any_order (filter (λ e. e.ord == ord) it.entries) x.items)
-          (λ it x. AreInOrder in_any_order (filter (is_before (ord + 1)) it.entries) x.items)
+      looks_more (λ it x. IsSame x.items (filter (is_before ord) it.entries))
+          (λ it x. IsSame x.items (filter (λ e. e.ord == ord) it.entries))
+          (λ it x. IsSame x.items (filter (is_before (ord + 1)) it.entries))
           old mid new found part c.append.new.self c.loop-ord.invariant.1 c.in_ok-part.ensures.does
           (λ it p q. one_part_more ord it.entries found.items part.items c.append.new.self.items c.loop-ord-test.true grown p q),
     )
@@ -30,7 +29,7 @@ returns g c =
     record {
       same_reference = c.loop-ord.invariant.0;
       does =
-          looks_as (λ it x. AreInOrder in_any_order (filter (is_before ord) it.entries) x.items) (λ it x. AreInOrder in_any_order it.entries x.items)
-          old new found found (λ it p. ordered_as in_any_order in_any_order (filter (is_before ord) it.entries) it.entries found.items (λ x y. refl)
-          (ap (λ n. filter (is_before n) it.entries) ended ∙ all_parts it.entries) p) c.loop-ord.invariant.1;
+          looks_as (λ it x. IsSame x.items (filter (is_before ord) it.entries)) (λ it x. IsSame x.items it.entries)
+          old new found found (λ it p. subst (IsSame found.items) (ap (λ n. filter (is_before n) it.entries) ended ∙ all_parts it.entries) p)
+          c.loop-ord.invariant.1;
     }
