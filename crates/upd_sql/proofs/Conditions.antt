@@ -1,8 +1,8 @@
 -- What the tests of the texts say of the rows of records.
-use Rattle.upd_sql.proofs.Common.{◌≡◌, ℕ, ◌==◌, Bool, true, false, ◌&&◌, if◌then◌else◌, List, [], ◌∷◌, refl, ap₂, ◌∙◌, arith, bytes_eq, list_all, nat_tests, Null, Text, Row, Term, holds}
+use Rattle.upd_sql.proofs.Common.{◌≡◌, ℕ, ◌==◌, Bool, true, false, ◌&&◌, if◌then◌else◌, List, [], ◌∷◌, refl, ap₂, ◌∙◌, arith, bytes_eq, nat_tests, Null}
 use Rattle.upd_sql.proofs.Common.{Target, Set, SetIn, Deck, is_same, CardRow, EntryRow, TargetRow, RunView, StateRow, CountRow, MarkRow, same_ref}
 use Rattle.upd_sql.proofs.Common.{is_run, is_settled, is_mark_of, eq_text, eq_nat, one_test, two_tests, three_tests, num, target_code, card_row, entry_row}
-use Rattle.upd_sql.proofs.Common.{target_row, run_row, state_row, count_row, mark_row}
+use Rattle.upd_sql.proofs.Common.{target_row, run_row, state_row, count_row, mark_row, list_all, Text, Row, Term, holds}
 use Rattle.std.proofs.Common.{nat_eq}
 use Rattle.upd_shifts.specs.Ranges.{in_range}
 use Rattle.upd_shifts.specs.declared.ranges.CardRange.{CardRange}

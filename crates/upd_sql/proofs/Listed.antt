@@ -62,7 +62,8 @@ lists k tree alone row all xs are sql params old new rows shown h tests project 
     let f = λ (v : Row). eval_all project (params ∷ (Null ∷ v) ∷ []) in
     let put : _ → Output = λ x. ([], f (row x)) in
     let found = selects library_schema k tree alone old.now all params (showing library_schema all old.now h) tests project [] (passes params tests) f
-    (λ v. []) query.names (own old.now.trees tree) (λ r. bare_tests params r tests bare) (λ r. bare_values params r project bare_shown) (λ r. refl) rows reads in
+    (λ v. []) query.names (own old.now.trees tree) (λ r. bare_tests params r tests bare) (λ r. bare_values params r project bare_shown) (λ r. refl)
+    rows reads in
     let passing : map (λ v. ([], f v)) (filter (passes params tests) (rows_at k all)) ≡ map put (filter q xs) =
     ap (λ rs. map (λ v. ([], f v)) (filter (passes params tests) rs)) are
     ∙ ap (map (λ v. ([], f v))) (filter-map (passes params tests) row xs ∙ ap (map row) (filter_same _ _ means xs)) ∙ map-map (λ v. ([], f v)) row _ in
