@@ -87,10 +87,10 @@ ident_own a =
     both _ _ ((bytes_eq-Decides a.name a.name).1 refl) (both _ _ ((Decides-eqb a.age a.age).1 refl)
     (both _ _ ((Decides-eqb (kind_number a.kind) (kind_number a.kind)).1 refl) (both _ _ (bool_own a.noprop) (bool_own a.held))))
 
-abbrev same_card_row : CardRow → CardRow → Bool
+abbrev pub same_card_row : CardRow → CardRow → Bool
 same_card_row a b = same_ref a.card b.card && ((a.deck == b.deck) && ((a.pos == b.pos) && bytes_eq a.body b.body))
 
-one_card_row : (a b : CardRow) → same_card_row a b ≡ true → a ≡ b
+pub one_card_row : (a b : CardRow) → same_card_row a b ≡ true → a ≡ b
 one_card_row a b e =
     let p = and_parts _ _ e in
     let q = and_parts _ _ p.1 in
@@ -101,7 +101,7 @@ one_card_row a b e =
     let body = (bytes_eq-Decides a.body b.body).0 r.1 in
     λ i. record { card = card i; deck = deck i; pos = pos i; body = body i }
 
-card_row_own : (a : CardRow) → same_card_row a a ≡ true
+pub card_row_own : (a : CardRow) → same_card_row a a ≡ true
 card_row_own a =
     both _ _ (same_ref_own a.card) (both _ _ ((Decides-eqb a.deck a.deck).1 refl)
     (both _ _ ((Decides-eqb a.pos a.pos).1 refl) ((bytes_eq-Decides a.body a.body).1 refl)))
@@ -113,10 +113,10 @@ entry_own e = go e.active
     go true = both _ _ ((Decides-eqb e.ident e.ident).1 refl) refl
     go false = both _ _ ((Decides-eqb e.ident e.ident).1 refl) refl
 
-abbrev same_entry_row : EntryRow → EntryRow → Bool
+abbrev pub same_entry_row : EntryRow → EntryRow → Bool
 same_entry_row a b = same_ref a.card b.card && ((a.ord == b.ord) && same_entry a.entry b.entry)
 
-one_entry_row : (a b : EntryRow) → same_entry_row a b ≡ true → a ≡ b
+pub one_entry_row : (a b : EntryRow) → same_entry_row a b ≡ true → a ≡ b
 one_entry_row a b e =
     let p = and_parts _ _ e in
     let q = and_parts _ _ p.1 in
@@ -125,7 +125,7 @@ one_entry_row a b e =
     let entry = same_entry_is a.entry b.entry q.1 in
     λ i. record { card = card i; ord = ord i; entry = entry i }
 
-entry_row_own : (a : EntryRow) → same_entry_row a a ≡ true
+pub entry_row_own : (a : EntryRow) → same_entry_row a a ≡ true
 entry_row_own a = both _ _ (same_ref_own a.card) (both _ _ ((Decides-eqb a.ord a.ord).1 refl) (entry_own a.entry))
 
 abbrev same_target_row : TargetRow → TargetRow → Bool

@@ -11,6 +11,7 @@ pub mod KeyLemmas
 pub mod ActiveLemmas
 mod ByCardLemmas
 mod RestLemmas
+mod CardLemmas
 mod PartRowLemmas
 pub mod AskedLemmas
 pub mod Common

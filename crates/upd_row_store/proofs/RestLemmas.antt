@@ -25,7 +25,7 @@ use Rattle.upd_row_store.proofs.SortLemmas.{all_joined, all_kept, weaker}
 
 -- ---- elements that are kept
 
-any_filter : {A : Type 0} (keep test : A → Bool) (xs : List A) → list_any test (filter keep xs) ≡ list_any (λ x. keep x && test x) xs
+pub any_filter : {A : Type 0} (keep test : A → Bool) (xs : List A) → list_any test (filter keep xs) ≡ list_any (λ x. keep x && test x) xs
 any_filter keep test [] = refl
 any_filter {A} keep test (x ∷ xs) = go (keep x) (any_filter keep test xs)
   where
@@ -86,7 +86,7 @@ any_flat test f (y ∷ xs) (suc k) x e hit =
     or_true false = refl
 
 -- two lists of which the second becomes shorter
-apart_fewer : {K : Type 0} (xs ys zs : List K) → ((P : K → Type 0) → AllByRecursion P ys → AllByRecursion P zs) → AreApart zs → AreApart (xs ++ ys)
+pub apart_fewer : {K : Type 0} (xs ys zs : List K) → ((P : K → Type 0) → AllByRecursion P ys → AllByRecursion P zs) → AreApart zs → AreApart (xs ++ ys)
     → AreApart (xs ++ zs)
 apart_fewer [] ys zs fewer apart whole = apart
 apart_fewer (x ∷ xs) ys zs fewer apart whole = (

@@ -106,7 +106,7 @@ module _ {A : Type 0} (card : A → CardRef) (ord : A → ℕ) where
 -- ---- the rows of one card among those of many
 
 module _ {A X : Type 0} (card : A → CardRef) (ref : X → CardRef) (rows : X → List A) (of : (x : X) → AllByRecursion (λ r. card r ≡ ref x) (rows x)) where
-  own_kept : (c : CardRef) (rs : List A) → AllByRecursion (λ r. card r ≡ c) rs → filter (λ r. same_ref c (card r)) rs ≡ rs
+  pub own_kept : (c : CardRef) (rs : List A) → AllByRecursion (λ r. card r ≡ c) rs → filter (λ r. same_ref c (card r)) rs ≡ rs
   own_kept c [] all = refl
   own_kept c (r ∷ rs) all =
       let own : same_ref c (card r) ≡ true = subst (λ d. same_ref c d ≡ true) (sym all.0) (same_ref_own c) in

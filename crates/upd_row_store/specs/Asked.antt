@@ -1,11 +1,11 @@
 -- Which decks hold cards that a store is asked for.
-use Rattle.std.specs.Prelude.{◌≡◌, ℕ, ◌==◌, Bool, false, ◌&&◌, List, [], ◌∷◌, map}
+use Rattle.std.specs.Prelude.{◌≡◌, ℕ, ◌==◌, Bool, false, ◌&&◌, List, [], ◌∷◌, map, Option}
 use Rattle.std.specs.List.{filter, list_any}
-use Rattle.std.specs.Option.{option_to_list}
+use Rattle.std.specs.Option.{option_and_then, option_map, option_to_list}
 use Rattle.upd_text.specs.declared.card_ref.CardRef.{CardRef}
 use Rattle.upd_core.specs.Edits.{is_among}
 use Rattle.upd_core.specs.declared.ident.Ident.{Ident}
-use Rattle.upd_core.specs.Library.{DeckView, LibraryView, deck_of, ref_of}
+use Rattle.upd_core.specs.Library.{CardView, DeckView, LibraryView, card_in, deck_of, place_of, ref_of}
 use Rattle.upd_records.specs.Rows.{CardRow, same_ref}
 use Rattle.upd_row_store.specs.declared.asked.DeckOf.{DeckOf}
 use Rattle.upd_row_store.specs.declared.asked.DeckOf.TheVariants.{Named, Holding}
@@ -40,3 +40,13 @@ ages_asked (Holding card) l = decks_with (card ∷ []) l
 -- These ages, in whatever order, are those of the decks in the rows of the cards that are asked for, 0 for `YANK$$$` among them.
 abbrev pub AreDecksOf : List CardRef → List CardRow → List ℕ → Type 0
 AreDecksOf cards rows ages = (d : ℕ) → is_among ages d ≡ list_any (λ r. (r.deck == d) && is_asked cards r.card) rows
+
+-- the card that a reference names, with the serial of its deck
+abbrev pub placed_card : CardRef → LibraryView → Option (ℕ × CardView)
+placed_card card l = option_and_then (λ p. option_map (λ c. (p.deck, c)) (card_in p l)) (place_of card l)
+
+-- A library that shows a card as another does: with the same idents and the same `YANK$$$`, in the same deck.
+pub record ShowsCard (card : CardRef) (l found : LibraryView) : Type 0 where
+  pub idents : found.idents ≡ l.idents
+  pub yanks : found.yanks ≡ l.yanks
+  pub same : placed_card card found ≡ placed_card card l

@@ -1,16 +1,17 @@
 //! A library out of its rows, which come in any order.
-ghost use Rattle.std.specs.Prelude.{◌≡◌, ℕ, List, ◌∷◌, ◌++◌, IfOk, OnOk, IsPermutation, length};
+ghost use Rattle.std.specs.Prelude.{◌≡◌, ℕ, ◌==◌, Bool, false, List, [], ◌∷◌, ◌++◌, Some, IfOk, OnOk, IsPermutation, length};
 ghost use Rattle.std.specs.BTreeSet as sorted;
 ghost use Rattle.std.specs.Cmp.Lexicographic.{slice_cmp};
-ghost use Rattle.std.specs.List.{filter, list_any};
+ghost use Rattle.std.specs.List.{filter, find, list_any};
 ghost use Rattle.std.specs.Ordering.{nat_cmp};
 ghost use Rattle.std.specs.Str.{bytes_eq};
 ghost use Rattle.upd_text.specs.Units.{Bytes};
+ghost use Rattle.upd_text.specs.declared.card_ref.CardRef.{CardRef};
 ghost use Rattle.upd_core.specs.Library.{LibraryView, empty};
 ghost use Rattle.upd_core.specs.Sound.{IsSound, IsWhole};
 ghost use Rattle.upd_core.specs.declared.ident.Ident.{Ident};
-ghost use Rattle.upd_records.specs.Rows.{CardRow, EntryRow, IsSame, Rows, Shows, TargetRow};
-ghost use Rattle.upd_row_store.specs.Asked.{ages_asked};
+ghost use Rattle.upd_records.specs.Rows.{CardRow, EntryRow, IsSame, Rows, Shows, TargetRow, same_ref};
+ghost use Rattle.upd_row_store.specs.Asked.{ShowsCard, ages_asked};
 ghost use Rattle.upd_row_store.specs.declared.asked.DeckOf.TheVariants.{Named};
 ghost use Rattle.upd_row_store.specs.Assembling.{AreAgesOf, AreByAge, AreEntriesByCard, AreByPlace, AreRowsOf};
 ghost use Rattle.upd_row_store.specs.Assembling.{AreTargetsByCard, age_named, card_of_row, decks_from, decks_in, entries_of};
@@ -245,16 +246,40 @@ fn decks_among(
     decks_in(alloc, &named, cards, entries, targets)
 }
 
+/// Takes the cards of the first deck, which is `YANK$$$`.
+fn take_yanks(alloc: Global, decks: &mut Vec<Deck>) -> Vec<Card>
+    ensures { (idents : List Ident) → library_of idents decks.old.items
+        ≡ record { idents = idents; decks = decks.new.items; yanks = result.items; rest = empty.rest } }
+{
+    if decks.is_empty() {
+        return Vec::new(alloc);
+    }
+    let yanks = decks.remove(0);
+    yanks.cards
+}
+
 /// The library of a directory and decks, of which the first is `YANK$$$`, with a rest.
 fn library_with(alloc: Global, idents: Vec<Ident>, decks: Vec<Deck>, rest: Rest) -> Library
     ensures { result ≡ record (library_of idents.items decks.items) { rest = rest } }
 {
     let mut decks = decks;
-    if decks.is_empty() {
-        return Library::of_parts(idents, decks, Vec::new(alloc), rest);
-    }
-    let yanks = decks.remove(0);
-    Library::of_parts(idents, decks, yanks.cards, rest)
+    let yanks = take_yanks(alloc, &mut decks);
+    Library::of_parts(idents, decks, yanks, rest)
+}
+
+/// The same of the first of some decks, and of other decks but for their first.
+fn library_beside(alloc: Global, idents: Vec<Ident>, decks: Vec<Deck>, others: Vec<Deck>) -> Library
+    ensures { result ≡ record (library_of idents.items others.items) { yanks = (library_of idents.items decks.items).yanks } }
+{
+    let mut decks = decks;
+    let mut others = others;
+    let yanks = take_yanks(alloc, &mut decks);
+    let _ = take_yanks(alloc, &mut others);
+    let rest = Rest {
+        cards: 0,
+        entries: 0,
+    };
+    Library::of_parts(idents, others, yanks, rest)
 }
 
 /// The library of a directory and decks, of which the first is `YANK$$$`, with no rest.
@@ -369,4 +394,27 @@ pub fn assembled_with_rest(
     };
     let (idents, decks) = idents_and_decks(alloc, rows)?;
     Ok(library_with(alloc, idents, decks, rest))
+}
+
+/// The directory and `YANK$$$` of these rows, and a card in its deck alone, from its own row and its entries: rows and
+/// entries come in any order. Memory alone can fail.
+pub fn assembled_card(
+    alloc: Global,
+    rows: LibraryRows,
+    row: CardRow,
+    entries: Vec<EntryRow>,
+) -> Result<Library, AllocError>
+    ensures { (card : CardRef) (tables : Rows) (l : LibraryView) → IsSound l → Shows tables l
+        → (AreOfDistinctCards tables.cards → AreRowsOf (part_rows [] tables) rows) → (row.deck == 0) ≡ false
+        → (keep : CardRow → Bool) (kept : List CardRow) → IsSame kept (filter keep tables.cards)
+        → find (λ r. same_ref card r.card) kept ≡ Some row
+        → IsSame entries.items (filter (λ r. same_ref card r.card) tables.entries)
+        → IfOk result (λ found. ShowsCard card l found) }
+{
+    let (idents, decks) = idents_and_decks(alloc, rows)?;
+    let entries = entries_by_card(entries);
+    let mut cards = Vec::new(alloc);
+    cards.push(row)?;
+    let own = decks_among(alloc, &idents, cards, &entries, &[])?;
+    Ok(library_beside(alloc, idents, decks, own))
 }

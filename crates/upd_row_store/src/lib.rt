@@ -15,8 +15,8 @@ pub use asked::{
     reads_with, states_among, states_by_key,
 };
 pub use assemble::{
-    age_of, assembled, assembled_deck, assembled_part, assembled_with_rest, by_age, deck_named,
-    held_ages,
+    age_of, assembled, assembled_card, assembled_deck, assembled_part, assembled_with_rest, by_age,
+    deck_named, held_ages,
 };
 pub use meaning::Meaning;
 pub use store::{RowStore, StoredRuns};

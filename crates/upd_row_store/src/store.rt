@@ -1,10 +1,12 @@
 //! What a store of rows promises.
-ghost use Rattle.std.specs.Prelude.{◌≡◌, OnOk, map};
+ghost use Rattle.std.specs.Prelude.{◌≡◌, IfSome, OnOk, map};
 ghost use Rattle.upd_core.specs.Actives.{actives_of};
 ghost use Rattle.upd_records.specs.Changes.{change_view};
-ghost use Rattle.upd_records.specs.Rows.{Rows, ShowsStates};
+ghost use Rattle.upd_records.specs.Rows.{Rows, Shows, ShowsStates};
 ghost use Rattle.upd_records.specs.Fits.{AllFit};
-ghost use Rattle.upd_row_store.specs.Asked.{AreHomes, ages_asked, decks_with};
+ghost use Rattle.upd_core.specs.Library.{LibraryView};
+ghost use Rattle.upd_core.specs.Sound.{IsSound};
+ghost use Rattle.upd_row_store.specs.Asked.{AreHomes, ShowsCard, ages_asked, decks_with};
 ghost use Rattle.upd_row_store.specs.Assembling.{AreRowsOf};
 ghost use Rattle.upd_row_store.specs.Keeping.{FindsLibrary, FindsRows, IsShown, LeavesDeck, LeavesLoad, LeavesRead, LeavesWrite};
 ghost use Rattle.upd_row_store.specs.Movable.{AllMoveListed};
@@ -68,6 +70,15 @@ pub trait RowStore: Meaning {
                 self.load_decks(alloc, &decks)
             }
         }
+    }
+
+    /// The directory, `YANK$$$`, and of its deck this card alone. None where that isn't in memory, or memory runs out.
+    fn card_alone(&self, _: Global, card: CardRef) -> Option<Library>
+        ensures { Self.is_honest self.now → IfSome result (λ found. Self.is_open self.now
+            × ((l : LibraryView) → IsSound l → (rows : Rows) → IsShown Self.Meaning rows self.now → Shows rows l
+            → ShowsCard card l found)) }
+    {
+        None
     }
 
     /// The decks of `decks_of`, and whether one of these cards may be in `YANK$$$`: false only where none is.
