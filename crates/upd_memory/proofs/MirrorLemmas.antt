@@ -6,7 +6,7 @@ use Rattle.upd_memory.proofs.Common.{Decides-eqb, drop_more, map-append, by_name
 use Rattle.upd_memory.proofs.Common.{same_trans, Change, change_view, done, done_all, CardRow, CountRow, EntryRow, IsSame}
 use Rattle.upd_memory.proofs.Common.{Rows, same_ref, state_rows, same_length, any_same, count_pair, Agrees, AreCards, AreEntries, AreHomes, AreStatuses}
 use Rattle.upd_memory.proofs.Common.{cards_at, entries_at, is_home, filter_twice}
-use Rattle.std.proofs.Common.{◌-◌, zero, suc, OnOk, IfOk}
+use Rattle.std.proofs.Common.{◌-◌, zero, suc, option_map, OnOk, IfOk, IfSome}
 use Rattle.std.specs.Prelude.{◌≤◌, OnSome}
 use Rattle.std.proofs.lemmas.Option.{same_Some}
 use Rattle.upd_records.proofs.EffectLemmas.{any_append}
@@ -31,6 +31,15 @@ when_ok (Err e) o x is some holds = absurd (let clash : None ≡ Some x = sym is
 pub ok_value : {A E : Type 0} (P : A → Type 0) (r : Result A E) (o : Option A) (x : A) → o ≡ result_ok r → o ≡ Some x → IfOk r P → P x
 ok_value P (Ok y) o x is some holds = subst P (let same : Some y ≡ Some x = sym is ∙ some in same_Some y x same) holds
 ok_value P (Err e) o x is some holds = absurd (let clash : None ≡ Some x = sym is ∙ some in cc)
+
+pub ok_some : {A E : Type 0} (P : A → Type 0) (r : Result A E) (o : Option A) → o ≡ result_ok r → IfOk r P → IfSome o P
+ok_some P (Ok y) o is holds = subst (λ p. IfSome p P) (sym is) holds
+ok_some P (Err e) o is holds = subst (λ p. IfSome p P) (sym is) tt
+
+-- what is found, if it is there
+pub some_found : {A B : Type 0} (view : A → B) (o : Option A) (f : Option B) → option_map view o ≡ f → IfSome o (λ x. f ≡ Some (view x))
+some_found view None f is = tt
+some_found view (Some x) f is = sym is
 
 -- what a call ensures where it succeeds, by other words
 pub on_success : {X P Q : Type 0} (o : Option X) → OnSome o P → (P → Q) → OnSome o Q

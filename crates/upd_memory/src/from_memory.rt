@@ -8,7 +8,7 @@ ghost use Rattle.upd_core.specs.Library.{LibraryView};
 ghost use Rattle.upd_core.specs.Parts.{part_of};
 ghost use Rattle.upd_core.specs.Sound.{IsSound, IsWhole};
 ghost use Rattle.upd_records.specs.Rows.{Rows, Shows, ShowsStates};
-ghost use Rattle.upd_row_store.specs.Asked.{AreHomes, ages_asked, decks_with};
+ghost use Rattle.upd_row_store.specs.Asked.{AreHomes, ShowsCard, ages_asked, decks_with};
 ghost use Rattle.upd_row_store.specs.Assembling.{AreRowsOf};
 ghost use Rattle.upd_row_store.specs.PartRows.{AreOfDistinctCards, part_rows};
 ghost use Rattle.upd_row_store.specs.Tables.{AreByKey, AreRead, AreReadOf};
@@ -17,18 +17,19 @@ ghost use Rattle.upd_memory.specs.Mirrored.{Agrees};
 use crate::active_rows::{active_decks, all_by_place};
 use crate::mirror::Mirror;
 use crate::row_copies::{
-    all_cards, all_entries, all_states, card_count, cards_of, entries_of, homes_of,
+    all_cards, all_entries, all_states, card_count, cards_of, entries_of, homes_of, row_in,
     sorted_references,
 };
 use crate::status_answers::statuses_of;
 use crate::status_lookup::Statuses;
+use crate::tables::home_of;
 use std::alloc::{AllocError, Global};
 use std::collections::BTreeMap;
 use upd_core::{Actives, CardRef, Library, Serial, States};
 use upd_records::LibraryRows;
 use upd_row_store::{
-    DeckOf, Homes, assembled, assembled_active, assembled_with_rest, by_age, deck_named,
-    decks_by_age, held_ages, homes_by_age, states_by_key,
+    DeckOf, Homes, assembled, assembled_active, assembled_card, assembled_with_rest, by_age,
+    deck_named, decks_by_age, held_ages, homes_by_age, states_by_key,
 };
 
 /// The cards of a map with their statuses.
@@ -146,6 +147,22 @@ impl Mirror {
     {
         let ages = self.ages_asked(alloc, asked)?;
         self.part(alloc, &ages)
+    }
+
+    /// The directory, `YANK$$$`, and of a deck other than it this card alone, if it's there; none where memory runs out.
+    pub(crate) fn card_alone(&self, alloc: Global, card: &CardRef) -> Option<Library>
+        ensures { (rows : Rows) → Agrees self.now rows → (l : LibraryView) → IsSound l → Shows rows l
+            → IfSome result (λ found. ShowsCard card.now l found) }
+    {
+        let deck = home_of(&self.homes, card)?;
+        let row = row_in(&self.decks, deck, card)?;
+        if row.deck == 0 {
+            return None;
+        }
+        let row = row.copy().ok()?;
+        let rows = self.part_rows(alloc, &[]).ok()?;
+        let entries = entries_of(alloc, &self.entries, &[*card]).ok()?;
+        assembled_card(alloc, rows, row, entries).ok()
     }
 
     /// The number of cards; none where it is no number of 64 bits.

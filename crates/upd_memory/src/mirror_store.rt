@@ -211,6 +211,13 @@ impl<S: RowStore> RowStore for MirrorStore<S> {
         }
     }
 
+    fn card_alone(&self, alloc: Global, card: CardRef) -> Option<Library> {
+        match &self.mirror {
+            Some(mirror) if self.is_live => mirror.card_alone(alloc, &card),
+            _ => None,
+        }
+    }
+
     fn decks_of(&mut self, alloc: Global, cards: &[CardRef]) -> Result<Vec<Serial>, Fault> {
         if self.is_live
             && let Some(mirror) = &self.mirror

@@ -1,14 +1,15 @@
 //! Copies of rows in memory, for whoever makes a library of them.
 
-ghost use Rattle.std.specs.Prelude.{◌≡◌, ◌++◌, ◌||◌, ℕ, [], if◌then◌else◌, length, map, IfOk, IfSome, OnOk};
+ghost use Rattle.std.specs.Prelude.{◌≡◌, ◌++◌, ◌||◌, ℕ, [], Some, if◌then◌else◌, length, map, IfOk, IfSome, OnOk};
 ghost use Rattle.std.specs.BTreeMap.{IsOrdered};
-ghost use Rattle.std.specs.List.{flat_map, list_any};
+ghost use Rattle.std.specs.List.{find, flat_map, list_any};
 ghost use Rattle.std.specs.List.Sorted.{IsPermutation};
 ghost use Rattle.std.specs.Ordering.{nat_cmp};
 ghost use Rattle.upd_text.specs.Order.{by_name};
 ghost use Rattle.upd_core.specs.Edits.{is_among};
 ghost use Rattle.upd_row_store.specs.PartRows.{is_loaded};
-ghost use Rattle.upd_memory.specs.RowsByKey.{entries_at, is_home};
+ghost use Rattle.upd_memory.specs.RowsByKey.{cards_at, entries_at, is_home};
+ghost use Rattle.upd_records.specs.Rows.{same_ref};
 ghost use Rattle.upd_memory.specs.Mirrored.{state_row};
 ghost use Rattle.upd_memory.specs.Walk.{AreFound};
 
@@ -18,7 +19,7 @@ use std::alloc::{AllocError, Global};
 use std::collections::BTreeMap;
 use std::collections::btree_map::Range;
 use upd_core::{CardRef, Serial};
-use upd_records::{CardRow, EntryRow, StateRow};
+use upd_records::{CardRow, EntryRow, StateRow, same_ref};
 
 /// Adds copies of rows of cards.
 fn add_copies(rows: &mut Vec<CardRow>, cards: &[CardRow]) -> Result<(), AllocError>
@@ -60,6 +61,27 @@ pub(crate) fn cards_of(
         add_if_loaded(&mut rows, cards, *age, ages)?;
     }
     Ok(rows)
+}
+
+/// The row of a card among rows.
+fn row_of<'a>(rows: &'a [CardRow], card: &CardRef) -> Option<&'a CardRow>
+    ensures { IfSome result (λ row. find (λ r. same_ref card.now r.card) rows.now ≡ Some row.now) }
+{
+    rows.iter().find(|row| same_ref(card, &row.card))
+}
+
+/// The row of a card of the deck with this serial.
+pub(crate) fn row_in<'a>(
+    decks: &'a BTreeMap<Serial, Vec<CardRow>>,
+    deck: Serial,
+    card: &CardRef,
+) -> Option<&'a CardRow>
+    ensures { IfSome result (λ row. find (λ r. same_ref card.now r.card) (cards_at decks.now deck) ≡ Some row.now) }
+{
+    match decks.get(&deck) {
+        Some(rows) => row_of(rows, card),
+        None => None,
+    }
 }
 
 /// The rows of all cards.
