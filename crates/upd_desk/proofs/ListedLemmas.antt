@@ -1,9 +1,14 @@
 -- What is listed of the part of a library with the deck that is asked for is listed of the whole.
 use Rattle.upd_desk.proofs.Common.{◌≡◌, ℕ, ◌+◌, ◌≤◌, false, not, List, [], ◌∷◌, length, Option, Some, None, sym, ap, ◌∙◌, subst, arith, refl, CardRef, is_among}
 use Rattle.upd_desk.proofs.Common.{LibraryView, part_of, IsSound, card_listing, deck_listing, decks_few, decks_with, is_left_out, part_of_others}
-use Rattle.std.specs.Option.{option_to_list}
-use Rattle.upd_core.specs.Library.{deck_of}
-use Rattle.upd_row_store.specs.Asked.{ages_asked}
+use Rattle.upd_desk.proofs.Common.{CardView, Fault, Ok, Place, Result, at_line, live_targets, need, place_of, ◌>>=◌}
+use Rattle.std.specs.Option.{option_and_then, option_map, option_to_list}
+use Rattle.upd_text.specs.declared.fault.FaultKind.TheVariants.{CardUnknown}
+use Rattle.upd_core.specs.Library.{card_in, deck_of}
+use Rattle.upd_core.specs.Status.{live_cards, targets_of}
+use Rattle.upd_core.specs.declared.ident.Ident.{Ident}
+use Rattle.upd_compile.specs.Listings.{card_lines}
+use Rattle.upd_row_store.specs.Asked.{ShowsCard, ages_asked, placed_card}
 use Rattle.upd_row_store.specs.declared.asked.DeckOf.{DeckOf}
 use Rattle.upd_row_store.specs.declared.asked.DeckOf.TheVariants.{Named, Holding}
 use Rattle.upd_partial.proofs.NeededLemmas.{card_kept}
@@ -21,6 +26,28 @@ pub card_listed : (card : CardRef) (found l : LibraryView) → IsSound l → fou
 card_listed card found l sound is =
     ap (card_listing card) (is ∙ part_of_others (decks_with (card ∷ []) l) l sound)
     ∙ card_listed_by_part (is_left_out (decks_with (card ∷ []) l) l) l card sound refl (card_kept card l sound)
+
+-- the lines of a card, from the idents and the yank cards
+abbrev shown_lines : List Ident → List CardView → Option (ℕ × CardView) → Result (List ℕ) Fault
+shown_lines idents yanks o = at_line 0 (need CardUnknown o) >>= λ x. Ok (card_lines idents (targets_of (live_cards yanks)) x.0 x.1)
+
+-- what shows a card as a library does lists it as the library does
+pub card_shown : (card : CardRef) (l found : LibraryView) → ShowsCard card l found → card_listing card found ≡ card_listing card l
+card_shown card l found shows = by found ∙ (λ i. shown_lines (shows.idents i) (shows.yanks i) (shows.same i)) ∙ sym (by l)
+  where
+    by : (m : LibraryView) → card_listing card m ≡ shown_lines m.idents m.yanks (placed_card card m)
+    by m = go (place_of card m)
+      where
+        at : (p : Place) (o : Option CardView) → (at_line 0 (need CardUnknown o) >>= λ c. Ok (card_lines m.idents (live_targets m) p.deck c))
+            ≡ shown_lines m.idents m.yanks (option_map (λ c. (p.deck, c)) o)
+        at p None = refl
+        at p (Some c) = refl
+
+        go : (o : Option Place)
+            → (at_line 0 (need CardUnknown o) >>= λ p. at_line 0 (need CardUnknown (card_in p m)) >>= λ c. Ok (card_lines m.idents (live_targets m) p.deck c))
+            ≡ shown_lines m.idents m.yanks (option_and_then (λ p. option_map (λ c. (p.deck, c)) (card_in p m)) o)
+        go None = refl
+        go (Some p) = at p (card_in p m)
 
 -- ---- it is one deck at most
 

@@ -25,7 +25,8 @@ pub(crate) enum Query {
     Yanks,
 }
 
-/// What a listing is made of: the directory, `YANK$$$`, and the deck that it is about, if there is one.
+/// What a listing is made of: the directory, `YANK$$$`, and the deck that it is about, if there is one, or the card of it
+/// where that is in memory.
 pub(crate) fn load_listed<S: RowStore>(
     store: &mut S,
     alloc: Global,
@@ -43,10 +44,15 @@ pub(crate) fn load_listed<S: RowStore>(
             Ok(part) => Ok(part),
             Err(fault) => Err(fault),
         },
-        Query::Card(card) => match store.load_deck_of(alloc, &DeckOf::Holding(*card)) {
-            Ok(part) => Ok(part),
-            Err(fault) => Err(fault),
-        },
+        Query::Card(card) => {
+            if let Some(alone) = store.card_alone(alloc, *card) {
+                return Ok(alone);
+            }
+            match store.load_deck_of(alloc, &DeckOf::Holding(*card)) {
+                Ok(part) => Ok(part),
+                Err(fault) => Err(fault),
+            }
+        }
         Query::Idents | Query::Yanks => match store.load_decks(alloc, &[]) {
             Ok(head) => Ok(head),
             Err(fault) => Err(fault),

@@ -1,5 +1,6 @@
 -- A deck, and the deck of a card, are one deck; the directory and `YANK$$$` are read without any.
-use Rattle.upd_desk.proofs.ListedLemmas.{card_listed, deck_listed, one_read}
+use Rattle.upd_desk.proofs.Common.{arith, keeps_still, refl}
+use Rattle.upd_desk.proofs.ListedLemmas.{card_listed, card_shown, deck_listed, one_read}
 use Rattle.upd_desk.proofs.LoadingLemmas.{none_read, within}
 use Rattle.upd_desk.proofs.MadeLemmas.{library_made}
 use Rattle.upd_desk.proofs.QueryLemmas.{held_rows, of_held}
@@ -25,6 +26,19 @@ returns-in-Err-clause-reads g c honest journal held =
     let made = library_made journal in
     rw c.in-Deck.is (within _ _ 1 (c.in-Err.ensures.leaves.reads honest (library_after journal) made.sound made.whole
     (λ opened. held_rows g.S.Meaning.shows (g.S.Meaning.image c.args.store.now) journal (held opened))))
+
+pub returns-in-Some-clause-found : goal.returns-in-Some-clause-found
+returns-in-Some-clause-found g c honest l made rows shown shows =
+    rw c.in-Card.is (card_shown c.in-Card.card l c.in-Some.alone ((c.in-Some.ensures honest).1 l made.sound rows shown shows))
+
+pub returns-in-Some-clause-reads : goal.returns-in-Some-clause-reads
+returns-in-Some-clause-reads g c honest journal held = rw c.in-Card.is (omega arith)
+
+pub returns-in-Some-clause-opens : goal.returns-in-Some-clause-opens
+returns-in-Some-clause-opens g c honest = (c.in-Some.ensures honest).0
+
+pub returns-in-Some-clause-leaves : goal.returns-in-Some-clause-leaves
+returns-in-Some-clause-leaves g c = record { same = keeps_still c.args.store.now; lost = tt; failed = refl }
 
 pub returns-in-Ok-load_deck_of-clause-found : goal.returns-in-Ok-load_deck_of-clause-found
 returns-in-Ok-load_deck_of-clause-found g c honest l made rows shown shows =
