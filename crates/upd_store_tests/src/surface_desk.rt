@@ -7,6 +7,7 @@ use std::test::Fail;
 use upd_compile::CompileFile;
 use upd_core::{Change, Library};
 use upd_desk::{Arrival, Desk, Reply};
+use upd_memory::MirrorStore;
 use upd_migrate::migrate;
 use upd_rows::{ListStore, RowStore, RunRow, SqlStore, load_rows};
 use upd_testkit::applying::{applied, card_ref, name};
@@ -131,6 +132,14 @@ fn is_written<S: RowStore>(alloc: Global, desk: &mut Desk<S>) -> Result<(), Fail
     is_text(&desk.card_list(alloc, card_ref("A.2")?)?, card)?;
     is_text(&desk.ident_list(alloc)?, "1 A deck held\n")?;
     is_text(&desk.yank_list(alloc)?, "")
+}
+
+#[test]
+fn a_desk_over_rows_in_memory_lists_a_card(rt: HostRuntime) -> Result<(), Fail> {
+    let mut store = MirrorStore::new(desk(rt.alloc())?.close());
+    store.warm(rt.alloc());
+    holds("rows in memory", store.has_rows())?;
+    is_written(rt.alloc(), &mut Desk::open(store))
 }
 
 /// A site settles its run, and the store that the desk leaves has its mark.
