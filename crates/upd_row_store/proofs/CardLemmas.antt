@@ -90,7 +90,14 @@ module _ (idents : List Ident) (row : CardRow) where
           let at = later (ap (λ b. b || list_any (same_card_row row) (deck_rows ds)) (sym none)
           ∙ sym (any_append (same_card_row row) (card_rows idents d.ident 0 d.cards) (deck_rows ds)) ∙ e) in
           record {
-            index = suc at.index; deck = at.deck; place = at.place; card = at.card; found = at.found; stands = at.stands; ref = at.ref; age = at.age;
+            index = suc at.index;
+            deck = at.deck;
+            place = at.place;
+            card = at.card;
+            found = at.found;
+            stands = at.stands;
+            ref = at.ref;
+            age = at.age;
             text = at.text;
           }
 
@@ -201,7 +208,8 @@ module _ (l : LibraryView) (sound : IsSound l) (row : CardRow) (other : (row.dec
       here : placed_card (ref_of l.idents at.card) (lone found) ≡ Some (at.deck.ident, at.card)
       here =
           let place : place_of (ref_of l.idents at.card) (lone found) ≡ Some (record { deck = at.deck.ident; index = 0 }) =
-          ap (option_and_then (λ age. place_in (all_decks (lone found)) age at.card.number)) (held_found l at.card.ident sound (card_held l at.card sound among))
+          ap (option_and_then (λ age. place_in (all_decks (lone found)) age at.card.number))
+          (held_found l at.card.ident sound (card_held l at.card sound among))
           ∙ card_place (all_decks (lone found)) 1 alone 0 at.card keys_apart refl refl in
           let cards : cards_of at.deck.ident (lone found) ≡ at.card ∷ [] = cards_of_deck (lone found) 1 alone ((no_yanks, tt), (tt, tt)) refl in
           let stands : card_in (record { deck = at.deck.ident; index = 0 }) (lone found) ≡ Some at.card = ap (λ cs. slice_get cs 0) cards in

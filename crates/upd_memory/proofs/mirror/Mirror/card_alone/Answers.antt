@@ -1,5 +1,5 @@
-use Rattle.upd_memory.proofs.Common.{◌==◌, ◌≡◌, ◌∙◌, [], ◌∷◌, Some, ap, append-nil, arith, false, filter, flat_map, nat_tests, same_ref, subst, sym, Agrees, CardRow, EntryRow, IsSame, Rows}
-use Rattle.upd_memory.proofs.Common.{Vec, cards_at, entries_at}
+use Rattle.upd_memory.proofs.Common.{◌==◌, ◌≡◌, ◌∙◌, [], ◌∷◌, Some, ap, append-nil, arith, false, filter, flat_map, nat_tests, same_ref, subst, sym}
+use Rattle.upd_memory.proofs.Common.{Agrees, CardRow, IsSame, Rows, cards_at, entries_at}
 use Rattle.upd_memory.proofs.MirrorLemmas.{ok_some, ok_value}
 use Rattle.upd_row_store.specs.Assembling.{AreRowsOf}
 use Rattle.upd_row_store.specs.PartRows.{AreOfDistinctCards, part_rows}
