@@ -1,106 +1,56 @@
 -- What a check shows of a run.
 use Rattle.upd_correct.proofs.Common.{◌≡◌, ℕ, ◌+◌, ◌<◌, Bool, true, false, not, List, [], ◌∷◌, ◌++◌, length, take, drop, Option, Some, None, refl, sym, ap}
 use Rattle.upd_correct.proofs.Common.{◌∙◌, subst, arith, ◌==◌, filter, AllByRecursion, AllZip, option_map_or, Target, next_age, CardView, DeckView}
-use Rattle.upd_correct.proofs.Common.{LibraryView, cards_of, deck_of, is_deck, is_active, live_targets, all_weaker, is_same_number, NewDeck, CorrectsSince}
+use Rattle.upd_correct.proofs.Common.{LibraryView, cards_of, deck_of, is_deck, is_active, live_targets, Decides-eqb, NewDeck, CorrectsSince}
 use Rattle.upd_correct.proofs.Common.{HasDecks, HasTexts, AreDecksFrom, AreLeft, Corrects, Empty, IsChecked, IsDeckLeft, LeadsCards, New, Old, held_serials}
 use Rattle.std.proofs.Common.{find, if◌then◌else◌, take-append-drop}
 use Rattle.upd_core.specs.Edits.{is_among}
 use Rattle.upd_core.specs.Status.{live_cards, targets_of}
-use Rattle.upd_laws.proofs.SoundListLemmas.{same_number}
 use Rattle.upd_correct.specs.Corrected.{active_cards}
 use Rattle.upd_correct.specs.Correcting.{BeginsWithSet, IsSublist, KeepsCards, Kept, Left, None as Nothing}
 use Rattle.upd_correct.specs.Checked.{Goes, LeavesCards, Stays}
 
+other_serial : (a d : ℕ) → (a ≡ d → ⊥) → (a == d) ≡ false
+other_serial a d other = go (a == d) refl
+  where
+    go : (b : Bool) → (a == d) ≡ b → (a == d) ≡ false
+    go true e = absurd (other ((Decides-eqb a d).0 e))
+    go false e = e
+
 -- ---- the cards that stay
 
--- whether a card is not of a set
-abbrev is_old : ℕ → CardView → Bool
-is_old z card = not (card.ident == z)
-
-old_passes : (z : ℕ) (card : CardView) → (card.ident ≡ z → ⊥) → is_old z card ≡ true
-old_passes z card other = go (card.ident == z) refl
-  where
-    go : (b : Bool) → (card.ident == z) ≡ b → is_old z card ≡ true
-    go true e = absurd (other (same_number card.ident z e))
-    go false e = ap not e
-
-new_fails : (z : ℕ) (card : CardView) → card.ident ≡ z → is_old z card ≡ false
-new_fails z card own = ap not (is_same_number card.ident z own)
-
-filter_in : {A : Type 0} (test : A → Bool) (x : A) (xs : List A) → test x ≡ true → filter test (x ∷ xs) ≡ x ∷ filter test xs
-filter_in test x xs e = rw e refl
-
-filter_out : {A : Type 0} (test : A → Bool) (x : A) (xs : List A) → test x ≡ false → filter test (x ∷ xs) ≡ filter test xs
-filter_out test x xs e = rw e refl
-
--- the active old cards after the run
+-- the active cards after the run that are not of the set
 abbrev old_after : List Target → ℕ → ℕ → List CardView → List CardView
-old_after live d z news = filter (is_old z) (filter (is_active live d) news)
+old_after live d z news = filter (λ card. not (card.ident == z)) (filter (is_active live d) news)
 
-after_in : (live : List Target) (d z : ℕ) (c : CardView) (news : List CardView) → is_active live d c ≡ true → is_old z c ≡ true
-    → old_after live d z (c ∷ news) ≡ c ∷ old_after live d z news
-after_in live d z c news on old = ap (filter (is_old z)) (filter_in (is_active live d) c news on) ∙ filter_in (is_old z) c (filter (is_active live d) news) old
-
-after_new : (live : List Target) (d z : ℕ) (c : CardView) (news : List CardView) → is_active live d c ≡ true → is_old z c ≡ false
-    → old_after live d z (c ∷ news) ≡ old_after live d z news
-after_new live d z c news on new = ap (filter (is_old z)) (filter_in (is_active live d) c news on)
-    ∙ filter_out (is_old z) c (filter (is_active live d) news) new
-
-after_off : (live : List Target) (d z : ℕ) (c : CardView) (news : List CardView) → is_active live d c ≡ false
-    → old_after live d z (c ∷ news) ≡ old_after live d z news
-after_off live d z c news off = ap (filter (is_old z)) (filter_out (is_active live d) c news off)
-
-pub left_kept : (taken live : List Target) (d z last : ℕ) (olds news : List CardView) → AreLeft taken live d z last olds news
+left_kept : (taken live : List Target) (d z last : ℕ) (olds news : List CardView) → AreLeft taken live d z last olds news
     → IsSublist (old_after live d z news) (filter (is_active live d) olds)
 left_kept taken live d z last _ _ Empty = Nothing
 left_kept taken live d z last _ _ (New c olds news own on left) =
-    subst (λ (cards : List CardView). IsSublist cards (filter (is_active live d) olds)) (sym (after_new live d z c news on (new_fails z c own)))
-    (left_kept taken live d z last olds news left)
+    rw on (rw ((Decides-eqb c.ident z).1 own) (left_kept taken live d z last olds news left))
 left_kept taken live d z last _ _ (Old o c olds news other (Goes young seen e off) left) =
-    subst (λ (cards : List CardView). IsSublist cards (filter (is_active live d) (o ∷ olds))) (sym (after_off live d z c news off))
-    (go (is_active live d o) refl (left_kept taken live d z last olds news left))
+    rw off (go (is_active live d o) refl (left_kept taken live d z last olds news left))
   where
     go : (b : Bool) → is_active live d o ≡ b → IsSublist (old_after live d z news) (filter (is_active live d) olds)
         → IsSublist (old_after live d z news) (filter (is_active live d) (o ∷ olds))
-    go true on rest =
-        subst (IsSublist (old_after live d z news)) (sym (filter_in (is_active live d) o olds on))
-        (Left o (old_after live d z news) (filter (is_active live d) olds) rest)
-    go false was_off rest =
-        subst (IsSublist (old_after live d z news)) (sym (filter_out (is_active live d) o olds was_off)) rest
+    go true on rest = rw on (Left o (old_after live d z news) (filter (is_active live d) olds) rest)
+    go false was_off rest = rw was_off rest
 left_kept taken live d z last _ _ (Old o c olds news other (Stays e) left) =
     subst (λ (x : CardView). IsSublist (old_after live d z (c ∷ news)) (filter (is_active live d) (x ∷ olds))) (sym e)
     (go (is_active live d c) refl (left_kept taken live d z last olds news left))
   where
     go : (b : Bool) → is_active live d c ≡ b → IsSublist (old_after live d z news) (filter (is_active live d) olds)
         → IsSublist (old_after live d z (c ∷ news)) (filter (is_active live d) (c ∷ olds))
-    go true on rest =
-        subst (λ (cards : List CardView). IsSublist cards (filter (is_active live d) (c ∷ olds))) (sym (after_in live d z c news on (old_passes z c other)))
-        (subst (IsSublist (c ∷ old_after live d z news)) (sym (filter_in (is_active live d) c olds on))
-        (Kept c (old_after live d z news) (filter (is_active live d) olds) rest))
-    go false off rest =
-        subst (λ (cards : List CardView). IsSublist cards (filter (is_active live d) (c ∷ olds))) (sym (after_off live d z c news off))
-        (subst (IsSublist (old_after live d z news)) (sym (filter_out (is_active live d) c olds off)) rest)
+    go true on rest = rw on (rw (other_serial c.ident z other) (Kept c (old_after live d z news) (filter (is_active live d) olds) rest))
+    go false off rest = rw off rest
 
 -- ---- the other decks
-
-find_here : {A : Type 0} (test : A → Bool) (x : A) (xs : List A) → test x ≡ true → find test (x ∷ xs) ≡ Some x
-find_here test x xs e = rw e refl
-
-find_past : {A : Type 0} (test : A → Bool) (x : A) (xs : List A) → test x ≡ false → find test (x ∷ xs) ≡ find test xs
-find_past test x xs e = rw e refl
-
-other_serial : (a d : ℕ) → (a ≡ d → ⊥) → (a == d) ≡ false
-other_serial a d other = go (a == d) refl
-  where
-    go : (b : Bool) → (a == d) ≡ b → (a == d) ≡ false
-    go true e = absurd (other (same_number a d e))
-    go false e = e
 
 none_from : (d n : ℕ) (added : List DeckView) → d < n → AreDecksFrom n added → find (is_deck d) added ≡ None
 none_from d n [] less from = refl
 none_from d n (x ∷ added) less from =
     let other : x.ident ≡ d → ⊥ = λ e. omega (arith, less, from.0, e) in
-    find_past (is_deck d) x added (other_serial x.ident d other) ∙ none_from d (n + 1) added (omega (arith, less)) from.1
+    rw (other_serial x.ident d other) (none_from d (n + 1) added (omega (arith, less)) from.1)
 
 find_left : (named : List ℕ) (d n : ℕ) (olds news added : List DeckView) → is_among named d ≡ false → d < n → AreDecksFrom n added
     → AllZip (IsDeckLeft named) olds news → find (is_deck d) (news ++ added) ≡ find (is_deck d) olds
@@ -113,11 +63,9 @@ find_left named d n (o ∷ olds) (x ∷ news) added free less from zip =
     go : (b : Bool) → (o.ident == d) ≡ b → find (is_deck d) (news ++ added) ≡ find (is_deck d) olds
         → find (is_deck d) (x ∷ (news ++ added)) ≡ find (is_deck d) (o ∷ olds)
     go true e rest =
-        let own : o.ident ≡ d = same_number o.ident d e in
-        let same : o ≡ x = zip.0.1 (subst (λ (a : ℕ). is_among named a ≡ false) (sym own) free) in
-        find_here (is_deck d) x (news ++ added) (is_same_number x.ident d (zip.0.0 ∙ own)) ∙ ap Some (sym same) ∙ sym (find_here (is_deck d) o olds e)
-    go false e rest =
-        find_past (is_deck d) x (news ++ added) (ap (λ (a : ℕ). a == d) zip.0.0 ∙ e) ∙ rest ∙ sym (find_past (is_deck d) o olds e)
+        rw (ap (λ (a : ℕ). a == d) zip.0.0 ∙ e)
+        (rw e (ap Some (sym (zip.0.1 (subst (λ (a : ℕ). is_among named a ≡ false) (sym ((Decides-eqb o.ident d).0 e)) free)))))
+    go false e rest = rw (ap (λ (a : ℕ). a == d) zip.0.0 ∙ e) (rw e rest)
 
 not_held : (l : LibraryView) (d : ℕ) (decks : List NewDeck) → AllByRecursion (λ (t : NewDeck). deck_of t.name l ≡ Some d → ⊥) decks
     → is_among (held_serials l decks) d ≡ false
@@ -132,7 +80,11 @@ not_held l d (t ∷ decks) none = go (deck_of t.name l) refl (not_held l d decks
 
 -- ---- the run
 
-pub live_same : (l m : LibraryView) → l.yanks ≡ m.yanks → live_targets l ≡ live_targets m
+all_weaker : {A : Type 0} (P Q : A → Type 0) (xs : List A) → ((x : A) → P x → Q x) → AllByRecursion P xs → AllByRecursion Q xs
+all_weaker P Q [] k a = tt
+all_weaker P Q (x ∷ xs) k a = (k x a.0, all_weaker P Q xs k a.1)
+
+live_same : (l m : LibraryView) → l.yanks ≡ m.yanks → live_targets l ≡ live_targets m
 live_same l m e = ap (λ (yanks : List CardView). targets_of (live_cards yanks)) e
 
 deck_same : (live : List Target) (last : ℕ) (l m : LibraryView) (set run : List ℕ) (decks : List NewDeck) (d : ℕ)

@@ -1,6 +1,5 @@
 pub mod ListLemmas
 pub mod TextLineLemmas
-pub mod PlanLemmas
 pub mod ReadDeckLemmas
 pub mod CauseLemmas
 pub mod SameLemmas

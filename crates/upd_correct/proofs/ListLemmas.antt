@@ -13,10 +13,6 @@ taken_count f [] i within = absurd (omega (arith, within))
 taken_count f (x ∷ xs) zero within = refl
 taken_count f (x ∷ xs) (suc i) within = ap suc (taken_count f xs i (omega (arith, within)))
 
-pub no_items : {A : Type 0} (xs : List A) → length xs ≡ 0 → xs ≡ []
-no_items [] e = refl
-no_items (x ∷ xs) e = absurd (omega (arith, e))
-
 -- the rest of a list as a range
 pub rest_of : {X : Type 0} (n : ℕ) (xs : List X) → take (length xs - n) (drop n xs) ≡ drop n xs
 rest_of n xs = take_all (length xs - n) (drop n xs) (omega (arith, length-drop n xs))

@@ -1,5 +1,5 @@
 -- The lines of an edited text, and how they are read.
-use Rattle.upd_correct.proofs.Common.{◌≡◌, ℕ, zero, suc, ◌+◌, ◌<◌, true, false, List, [], ◌∷◌, ◌++◌, length, take, drop, get_or, refl, sym, ap}
+use Rattle.upd_correct.proofs.Common.{◌≡◌, ℕ, zero, suc, ◌+◌, ◌<◌, false, List, [], ◌∷◌, ◌++◌, length, take, drop, get_or, refl, sym, ap}
 use Rattle.upd_correct.proofs.Common.{◌∙◌, subst, arith, append-nil, append_assoc, take_more, flat_map-append, map, map-append, Ok, flat_map, AllByRecursion}
 use Rattle.upd_correct.proofs.Common.{AllZip, LineView, is_feed, reading, NewDeck, lines_in, line_problem, head_read}
 use Rattle.std.specs.Prelude.{None}

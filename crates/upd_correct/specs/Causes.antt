@@ -41,7 +41,12 @@ pub data AreRefusals (taken l : LibraryView) (set text : Bytes) (refusals : List
   OfCards : (found : List InTheWay) → (found ≡ [] → ⊥) → refusals_of taken set text ≡ [] → refusals ≡ conflicts found
       → AreRefusals taken l set text refusals
 
--- the cause of an error: memory runs out at any time
+-- the cause of an error of a text with problems: memory runs out at any time
+abbrev pub IsTextCause : LibraryView → Bytes → Bytes → CorrectError → Type 0
+IsTextCause l set text NoMemory = Unit {0}
+IsTextCause l set text (Refused refusals) = (refusals.items ≡ [] → ⊥) × (refusals.items ≡ refusals_of l set text)
+
+-- the cause of an error
 abbrev pub IsCauseSince : LibraryView → LibraryView → Bytes → Bytes → CorrectError → Type 0
 IsCauseSince taken l set text NoMemory = Unit {0}
 IsCauseSince taken l set text (Refused refusals) = AreRefusals taken l set text refusals.items

@@ -66,6 +66,12 @@ part_problem number line problem = problem
 abbrev pub in_part : ℕ → Refusal → Refusal
 in_part number refusal = record refusal { problem = part_problem number refusal.line refusal.problem }
 
+-- an error with the number of the part; memory may run out for it
+abbrev pub IsInPart : ℕ → CorrectError → CorrectError → Type 0
+IsInPart number (Refused refusals) (Refused found) = found.items ≡ map (in_part number) refusals.items
+IsInPart number NoMemory (Refused found) = ⊥
+IsInPart number error NoMemory = Unit {0}
+
 -- A part is refused for what is wrong with its text or its run, after the parts before it. Or the parts don't lead to the text; this doesn't say why.
 pub data ArePartRefusals (l : LibraryView) (set : Bytes) (refusals : List Refusal) : Type 0 where
   OfPart : (before : LibraryView) (runs : List Bytes) (text : Bytes) (found : List Refusal) → Follows l set runs before

@@ -1,6 +1,6 @@
 //! Cards before and after a run.
 
-ghost use Rattle.std.specs.Prelude.{◌≡◌, ◌∷◌, ◌++◌, [], false, ℕ, List, IsTrue, IfSome};
+ghost use Rattle.std.specs.Prelude.{◌≡◌, ◌∷◌, ◌++◌, [], false, List, IsTrue, IfSome};
 ghost use Rattle.std.specs.Bool.{Decides};
 ghost use Rattle.upd_core.specs.Library.{CardView};
 ghost use Rattle.upd_core.specs.Status.{is_active};
@@ -12,11 +12,7 @@ use upd_core::{Card, Entry, Live, Serial, Target};
 pub(crate) fn is_same_card(old: &Card, new: &Card) -> bool
     ensures { Decides result (old.now ≡ new.now) }
 {
-    old.ident == new.ident
-        && old.number == new.number
-        && is_same_text(&old.text, &new.text)
-        && is_same_history(&old.history, &new.history)
-        && are_same_targets(&old.targets, &new.targets)
+    is_same_face(old, new) && is_same_history(&old.history, &new.history)
 }
 
 /// Whether two cards are the same but for their histories.

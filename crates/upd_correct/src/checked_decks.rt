@@ -1,6 +1,6 @@
 //! Decks before and after a run.
 
-ghost use Rattle.std.specs.Prelude.{◌≡◌, ◌==◌, length, IsTrue};
+ghost use Rattle.std.specs.Prelude.{◌≡◌, ◌==◌, IsTrue};
 ghost use Rattle.std.specs.Bool.{Decides};
 ghost use Rattle.std.specs.List.{AllZip};
 ghost use Rattle.upd_core.specs.Edits.{is_among};

@@ -1,10 +1,10 @@
 //! The directory before and after a run.
 
-ghost use Rattle.std.specs.Prelude.{◌≡◌, ◌+◌, ◌<◌, ◌^◌, ◌∷◌, ◌++◌, [], map, length, true, false, IsTrue};
+ghost use Rattle.std.specs.Prelude.{◌≡◌, ◌+◌, ◌<◌, ◌^◌, [], map, length, true, false, IsTrue};
 ghost use Rattle.std.specs.Bool.{Decides};
 ghost use Rattle.upd_core.specs.declared.ident.Kind.TheVariants.{Set};
 ghost use Rattle.upd_correct.specs.Corrected.{kind_of};
-ghost use Rattle.upd_correct.specs.Checked.{Brings, brought, deck_idents};
+ghost use Rattle.upd_correct.specs.Checked.{Brings, deck_idents};
 
 use crate::edited_deck::EditedDeck;
 use upd_core::{Ident, Kind};

@@ -38,49 +38,50 @@ fn held_serials(
         .collect(alloc)
 }
 
-/// Whether the directory grew by the set and the new decks.
-fn is_directory(
+/// Whether the idents, the decks but for those with these serials, the yanks and the rest are as they were. New idents and
+/// decks may follow.
+fn is_kept(before: &Library, after: &Library, held: &[Serial]) -> bool
+    ensures idents { IsTrue result → before.now.idents ≡ take (length before.now.idents) after.now.idents }
+    ensures others { IsTrue result
+        → AllZip (IsDeckLeft held.now) before.now.decks (take (length before.now.decks) after.now.decks) }
+    ensures yanks { IsTrue result → before.now.yanks ≡ after.now.yanks }
+    ensures rest { IsTrue result → before.now.rest ≡ after.now.rest }
+{
+    let (count, deck_count) = (before.idents().len(), before.decks().len());
+    if after.idents().len() < count || after.decks().len() < deck_count {
+        return false;
+    }
+    let (idents, _) = after.idents().split_at(count);
+    let (decks, _) = after.decks().split_at(deck_count);
+    before.rest() == after.rest()
+        && are_same_cards(before.yanks(), after.yanks())
+        && are_same_idents(before.idents(), idents)
+        && are_decks_left(held, before.decks(), decks)
+}
+
+/// Whether the new idents and decks are the set and the new decks of a text.
+fn is_grown(
     before: &Library,
     after: &Library,
     set: &[u8],
     run: &[u8],
     added: &[&EditedDeck],
 ) -> bool
-    ensures idents { IsTrue result → before.now.idents ≡ take (length before.now.idents) after.now.idents }
     ensures brings { IsTrue result → Brings run.now (next_age before.now) set.now (map (λ d. d.now) added.now)
         (drop (length before.now.idents) after.now.idents) }
-{
-    let count = before.idents().len();
-    if after.idents().len() < count {
-        return false;
-    }
-    let (old, new) = after.idents().split_at(count);
-    are_same_idents(before.idents(), old) && brings(run, count + 1, set, added, new)
-}
-
-/// Whether the decks are the old ones, each as it was unless its serial is given, and as many new ones.
-fn are_others(before: &Library, after: &Library, held: &[Serial], count: usize) -> bool
-    ensures others { IsTrue result
-        → AllZip (IsDeckLeft held.now) before.now.decks (take (length before.now.decks) after.now.decks) }
     ensures added { IsTrue result
         → AreDecksFrom (next_age before.now + 1) (drop (length before.now.decks) after.now.decks) }
-    ensures count { IsTrue result → length (drop (length before.now.decks) after.now.decks) ≡ count }
+    ensures count { IsTrue result → length (drop (length before.now.decks) after.now.decks) ≡ length added.now }
 {
-    if after.decks().len() < before.decks().len() {
+    let (count, deck_count) = (before.idents().len(), before.decks().len());
+    if after.idents().len() < count || after.decks().len() < deck_count {
         return false;
     }
-    let (old, new) = after.decks().split_at(before.decks().len());
-    new.len() == count
-        && are_decks_from(before.idents().len() + 2, new)
-        && are_decks_left(held, before.decks(), old)
-}
-
-/// Whether the yanks and the rest are as they were.
-fn is_rest(before: &Library, after: &Library) -> bool
-    ensures yanks { IsTrue result → before.now.yanks ≡ after.now.yanks }
-    ensures rest { IsTrue result → before.now.rest ≡ after.now.rest }
-{
-    before.rest() == after.rest() && are_same_cards(before.yanks(), after.yanks())
+    let (_, idents) = after.idents().split_at(count);
+    let (_, decks) = after.decks().split_at(deck_count);
+    decks.len() == added.len()
+        && are_decks_from(count + 2, decks)
+        && brings(run, count + 1, set, added, idents)
 }
 
 /// Whether the cards of a new deck are its own, and active.
@@ -186,25 +187,40 @@ fn leave_cards(
     true
 }
 
-/// Whether the decks of a text were led to it, and the directory, every other deck and the yanks are as they were.
+/// Whether there is no run, or a deck hasn't the text of its lines yet.
+pub(crate) fn is_needed(
+    alloc: Global,
+    library: &Library,
+    decks: &[EditedDeck],
+    is_none: bool,
+) -> Result<bool, Fault>
+    ensures needed { IfOk result (λ ok. IsTrue ok → AllByRecursion (HasTexts (live_targets library.now) library.now) decks.now
+        → IsTrue is_none) }
+    ensures err { IsOkUnless result (fault_at NoMemory 0) }
+{
+    if is_none {
+        return Ok(true);
+    }
+    let live = library.live_yanks()?;
+    let same = have_texts(alloc, library, &live, decks)?;
+    Ok(!same)
+}
+
+/// Whether the decks of a text were led to it, by no run where they had it, and the directory, every other deck and the
+/// yanks are as they were.
 pub(crate) fn is_led(
     alloc: Global,
     before: &Library,
     after: &Library,
     decks: &[EditedDeck],
+    is_none: bool,
 ) -> Result<bool, Fault>
-    ensures { IfOk result (λ ok. IsTrue ok → IsLed before.now decks.now after.now) }
+    ensures led { IfOk result (λ ok. IsTrue ok → IsLed before.now decks.now after.now) }
+    ensures needed { IfOk result (λ ok. IsTrue ok → AllByRecursion (HasTexts (live_targets before.now) before.now) decks.now
+        → IsTrue is_none) }
 {
     let held = held_serials(alloc, before, decks)?;
-    if after.idents().len() < before.idents().len()
-        || after.decks().len() < before.decks().len()
-        || !is_rest(before, after)
-    {
-        return Ok(false);
-    }
-    let (idents, _) = after.idents().split_at(before.idents().len());
-    let (old, _) = after.decks().split_at(before.decks().len());
-    if !are_same_idents(before.idents(), idents) || !are_decks_left(&held, before.decks(), old) {
+    if !is_kept(before, after, &held) || !is_needed(alloc, before, decks, is_none)? {
         return Ok(false);
     }
     let live = after.live_yanks()?;
@@ -228,10 +244,7 @@ pub(crate) fn is_corrected(
     let before = base.library;
     let held = held_serials(alloc, before, decks)?;
     let added = added_decks(alloc, before, decks)?;
-    if !is_rest(before, after)
-        || !is_directory(before, after, set, run, &added)
-        || !are_others(before, after, &held, added.len())
-    {
+    if !is_kept(before, after, &held) || !is_grown(before, after, set, run, &added) {
         return Ok(false);
     }
     let live = before.live_yanks()?;

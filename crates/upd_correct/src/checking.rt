@@ -1,22 +1,17 @@
 //! Checking a correction run.
 
-ghost use Rattle.std.specs.Prelude.{◌≡◌, ℕ, List, [], IsTrue, IfErr, IfOk};
-ghost use Rattle.std.specs.List.{AllByRecursion};
-ghost use Rattle.std.specs.Result.{IsOkUnless};
-ghost use Rattle.upd_text.specs.Faults.{fault_at};
-ghost use Rattle.upd_text.specs.declared.fault.FaultKind.TheVariants.{NoMemory};
+ghost use Rattle.std.specs.Prelude.{ℕ, List, IsTrue, IfErr, IfOk};
 ghost use Rattle.upd_text.specs.Outcome.{FailsAt};
 ghost use Rattle.upd_core.specs.Status.{live_targets};
 ghost use Rattle.upd_correct.specs.Correcting.{BeginsWithSet, CorrectsSince};
 ghost use Rattle.upd_correct.specs.LineReads.{HasDecks};
-ghost use Rattle.upd_correct.specs.Checked.{HasTexts, IsChecked, result_of};
+ghost use Rattle.upd_correct.specs.Checked.{IsChecked, result_of};
 
-use crate::checked_library::{have_texts, is_corrected};
+use crate::checked_library::{is_corrected, is_needed};
 use crate::correcting::EditBase;
 use crate::edited_deck::EditedDeck;
 use std::alloc::Global;
 use upd_apply::reach;
-use upd_core::Library;
 use upd_deck::read_run;
 use upd_text::Fault;
 
@@ -37,29 +32,11 @@ pub(crate) fn checked(
     if !begins_with_set(set, run) {
         return Ok(false);
     }
-    let needed = is_needed(alloc, base.taken, decks, run)?;
+    let needed = is_needed(alloc, base.taken, decks, run.is_empty())?;
     if !needed {
         return Ok(false);
     }
     applied_checked(alloc, base, set, decks, run)
-}
-
-/// Whether a run is empty, or a deck hasn't the text of its lines yet.
-fn is_needed(
-    alloc: Global,
-    library: &Library,
-    decks: &[EditedDeck],
-    run: &[u8],
-) -> Result<bool, Fault>
-    ensures needed { IfOk result (λ ok. IsTrue ok → AllByRecursion (HasTexts (live_targets library.now) library.now) decks.now → run.now ≡ []) }
-    ensures err { IsOkUnless result (fault_at NoMemory 0) }
-{
-    if run.is_empty() {
-        return Ok(true);
-    }
-    let live = library.live_yanks()?;
-    let same = have_texts(alloc, library, &live, decks)?;
-    Ok(!same)
 }
 
 /// The check of the run's effect.

@@ -1,6 +1,6 @@
 //! From an edited text to a run.
 
-ghost use Rattle.std.specs.Prelude.{◌≡◌, ◌≤◌, ℕ, [], List, length, map, IfErr, IfOk, IsErr, OnOk};
+ghost use Rattle.std.specs.Prelude.{◌≡◌, ℕ, [], List, length, map, IfErr, IfOk, IsErr, OnOk};
 ghost use Rattle.std.specs.List.{filter};
 ghost use Rattle.upd_text.specs.Outcome.{FailsAt};
 ghost use Rattle.upd_core.specs.Library.{LibraryView};
@@ -9,13 +9,12 @@ ghost use Rattle.upd_correct.specs.Causes.{IsCause, IsCauseSince, IsRunProblem, 
 ghost use Rattle.upd_correct.specs.Checked.{result_of};
 ghost use Rattle.upd_correct.specs.Correcting.{CorrectsSince, CorrectsTo};
 ghost use Rattle.upd_correct.specs.LineReads.{HasDecks};
-ghost use Rattle.upd_correct.specs.Problems.{set_problem};
-ghost use Rattle.upd_correct.specs.Refusals.{refusals_at, refusals_of};
+ghost use Rattle.upd_correct.specs.Refusals.{refusals_of};
 
 use crate::checking::checked;
-use crate::edited_deck::{EditedDeck, read_decks, refuse};
+use crate::edited_deck::{EditedDeck, decks_of, refusal_at_0};
 use crate::in_the_way::{InTheWay, cards_in_the_way};
-use crate::plan::{Correction, added_decks, corrections_for, set_problem};
+use crate::plan::{Correction, added_decks, corrections_for};
 use crate::refusal::{CorrectError, Problem, Refusal};
 use crate::writer::{Deletions, Form, write_run};
 use std::alloc::{AllocError, Global};
@@ -122,27 +121,8 @@ fn correct_on(
     let Ok(live) = base.taken.live_yanks() else {
         return Err(CorrectError::NoMemory);
     };
-    let mut refusals = set_refusals(alloc, base.taken, set)?;
-    let decks = read_decks(alloc, base.taken, &live, set, text, &mut refusals)?;
-    if !refusals.is_empty() {
-        return Err(CorrectError::Refused(refusals));
-    }
+    let decks = decks_of(alloc, base.taken, &live, set, text)?;
     run_for(alloc, base, &live, set, &decks)
-}
-
-/// The refusal of the name of a set, if there is a problem with it.
-pub(crate) fn set_refusals(
-    alloc: Global,
-    library: &Library,
-    set: &[u8],
-) -> Result<Vec<Refusal>, AllocError>
-    ensures { IfOk result (λ refusals. refusals.items ≡ refusals_at 0 0 (set_problem library.now set.now)) }
-{
-    let mut refusals = Vec::new(alloc);
-    if let Some(problem) = set_problem(library, set) {
-        refuse(&mut refusals, 0, 0, problem)?;
-    }
-    Ok(refusals)
 }
 
 /// The run for decks without problems, if it passes the check.
@@ -259,7 +239,5 @@ fn refused(alloc: Global, problem: Problem, run: &[u8]) -> Result<Vec<u8>, Corre
     ensures refused { (text set : List ℕ) (taken l : LibraryView) → refusals_of taken set text ≡ []
         → IsRunProblem l run.now problem → IfErr result (IsCauseSince taken l set text) }
 {
-    let mut refusals = Vec::new(alloc);
-    refuse(&mut refusals, 0, 0, problem)?;
-    Err(CorrectError::Refused(refusals))
+    Err(CorrectError::Refused(refusal_at_0(alloc, problem)?))
 }

@@ -1,22 +1,18 @@
 //! Edits that are too long for one run: runs that lead decks to an edited text one after the other.
 
-ghost use Rattle.std.specs.Prelude.{◌≡◌, ◌+◌, ℕ, [], List, length, map, Some, IfErr, IfOk, IsErr, IsTrue, OnOk};
-ghost use Rattle.std.specs.List.{AllByRecursion};
+ghost use Rattle.std.specs.Prelude.{◌≡◌, ◌+◌, ℕ, [], List, length, map, IfErr, IfOk, OnOk};
 ghost use Rattle.upd_core.specs.Library.{LibraryView};
-ghost use Rattle.upd_core.specs.Status.{live_targets};
-ghost use Rattle.upd_text.specs.Units.{Bytes};
 ghost use Rattle.upd_correct.specs.Causes.{IsCause};
-ghost use Rattle.upd_correct.specs.Checked.{HasTexts};
 ghost use Rattle.upd_correct.specs.Correcting.{CorrectsTo};
 ghost use Rattle.upd_correct.specs.LineReads.{HasDecks};
-ghost use Rattle.upd_correct.specs.Parts.{CorrectsInParts, Follows, IsLed, IsPartCause, IsPartsCause, IsReached, in_part, part_name};
+ghost use Rattle.upd_correct.specs.Parts.{CorrectsInParts, Follows, IsInPart, IsPartCause, IsPartsCause, IsReached, in_part, part_name};
 ghost use Rattle.upd_correct.specs.Parts.{part_problem, series_problem};
 ghost use Rattle.upd_correct.specs.Refusals.{refusals_of};
 
-use crate::checked_library::{have_texts, is_led};
-use crate::correcting::{correct_by, set_refusals};
+use crate::checked_library::is_led;
+use crate::correcting::correct_by;
 use crate::edit_pieces::{Piece, cuts_of, pieces_of, text_at};
-use crate::edited_deck::{EditedDeck, read_decks, refuse};
+use crate::edited_deck::{EditedDeck, decks_of, refusal_at_0};
 use crate::refusal::{CorrectError, Problem, Refusal};
 use crate::writer::{Deletions, Form};
 use itoa::Buffer;
@@ -26,7 +22,6 @@ use upd_compile::text_parts::push_parts;
 use upd_core::card::card_ref;
 use upd_core::{CardRef, Library, Live};
 use upd_deck::read_run;
-use upd_text::Fault;
 
 /// The longest name of the sets of parts, in bytes: a number follows it.
 const MAX_SERIES_BYTES: usize = 8;
@@ -53,18 +48,16 @@ pub fn correct_parts<'a>(
     ensures refused { IfErr result (IsPartsCause library.now set.now text.now) }
 {
     if let Some(problem) = series_problem(set) {
-        return refused_series(alloc, problem);
+        return Err(CorrectError::Refused(refusal_at_0(alloc, problem)?));
     }
     let Ok(live) = library.live_yanks() else {
         return Err(CorrectError::NoMemory);
     };
     let first = part_name(alloc, set, 1)?;
-    let mut refusals = set_refusals(alloc, library, &first)?;
-    let decks = read_decks(alloc, library, &live, &first, text, &mut refusals)?;
-    if !refusals.is_empty() {
-        return Err(CorrectError::Refused(in_part(alloc, 1, &refusals)?));
+    match decks_of(alloc, library, &live, &first, text) {
+        Ok(decks) => parts_for(alloc, library, &live, set, text, &decks),
+        Err(error) => Err(error_in_part(alloc, 1, error)),
     }
-    parts_for(alloc, library, &live, set, text, &decks)
 }
 
 /// What is wrong with the name of the sets of parts, which a number follows.
@@ -78,17 +71,6 @@ fn series_problem(set: &[u8]) -> Option<Problem>
     } else {
         None
     }
-}
-
-/// The error of the name of the sets.
-fn refused_series(alloc: Global, problem: Problem) -> Result<Vec<Vec<u8>>, CorrectError>
-    ensures err { IsErr result }
-    ensures refused { (l : LibraryView) (set text : List ℕ) → series_problem set ≡ Some problem
-        → IfErr result (IsPartsCause l set text) }
-{
-    let mut refusals = Vec::new(alloc);
-    refuse(&mut refusals, 0, 0, problem)?;
-    Err(CorrectError::Refused(refusals))
 }
 
 /// The runs for decks without problems.
@@ -144,42 +126,11 @@ fn parts_at(
         anchor = next;
     }
     push_part(alloc, set, text, anchor, &mut after, &mut runs)?;
-    match are_led(alloc, library, &after, decks, runs.is_empty()) {
+    match is_led(alloc, library, &after, decks, runs.is_empty()) {
         Ok(true) => Ok(runs),
-        Ok(false) => unchecked(alloc),
+        Ok(false) => Err(CorrectError::Refused(refusal_at_0(alloc, Problem::Unchecked)?)),
         Err(_) => Err(CorrectError::NoMemory),
     }
-}
-
-/// Whether the decks were led to their text, by no run where they had it.
-fn are_led(
-    alloc: Global,
-    before: &Library,
-    after: &Library,
-    decks: &[EditedDeck],
-    is_none: bool,
-) -> Result<bool, Fault>
-    ensures led { IfOk result (λ ok. IsTrue ok → IsLed before.now decks.now after.now) }
-    ensures needed { IfOk result (λ ok. IsTrue ok → AllByRecursion (HasTexts (live_targets before.now) before.now) decks.now
-        → IsTrue is_none) }
-{
-    if !is_none {
-        let live = before.live_yanks()?;
-        if have_texts(alloc, before, &live, decks)? {
-            return Ok(false);
-        }
-    }
-    is_led(alloc, before, after, decks)
-}
-
-/// The error of runs that don't lead to their text.
-fn unchecked(alloc: Global) -> Result<Vec<Vec<u8>>, CorrectError>
-    ensures err { IsErr result }
-    ensures refused { (l : LibraryView) (set : List ℕ) → IfErr result (IsPartCause l set) }
-{
-    let mut refusals = Vec::new(alloc);
-    refuse(&mut refusals, 0, 0, Problem::Unchecked)?;
-    Err(CorrectError::Refused(refusals))
 }
 
 /// Applies the run that leads a library to a text, and appends it; nothing where nothing changes. Returns a card that the
@@ -201,7 +152,7 @@ fn push_part(
     let name = part_name(alloc, set, number)?;
     match part_run(alloc, library, &anchor, &name, text) {
         Ok(run) => push_run(alloc, anchor, library, runs, run),
-        Err(error) => refused_part(alloc, number, error),
+        Err(error) => Err(error_in_part(alloc, number, error)),
     }
 }
 
@@ -243,27 +194,19 @@ fn push_run(
     let count = library.idents().len();
     apply_run(alloc, library, &run)?;
     runs.push(run)?;
-    match new_card(library, count) {
-        Some(card) => Ok(Some(card)),
-        None => Ok(anchor),
-    }
+    Ok(new_card(library, count).or(anchor))
 }
 
-/// The error of a part.
-fn refused_part(
-    alloc: Global,
-    number: usize,
-    error: CorrectError,
-) -> Result<Option<CardRef>, CorrectError>
-    ensures err { IsErr result }
-    ensures refused { (l before : LibraryView) (set text : List ℕ) (runs : List Bytes) → Follows l set runs before
-        → number ≡ length runs + 1 → IsCause before (part_name set number) text error → IfErr result (IsPartCause l set) }
+/// An error with the number of the part.
+fn error_in_part(alloc: Global, number: usize, error: CorrectError) -> CorrectError
+    ensures { IsInPart number error result }
 {
-    match error {
-        CorrectError::NoMemory => Err(CorrectError::NoMemory),
-        CorrectError::Refused(refusals) => {
-            Err(CorrectError::Refused(in_part(alloc, number, &refusals)?))
-        }
+    let CorrectError::Refused(refusals) = error else {
+        return CorrectError::NoMemory;
+    };
+    match in_part(alloc, number, &refusals) {
+        Ok(found) => CorrectError::Refused(found),
+        Err(_) => CorrectError::NoMemory,
     }
 }
 

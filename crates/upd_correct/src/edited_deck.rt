@@ -1,16 +1,18 @@
 //! Decks of an edited text.
 
-ghost use Rattle.std.specs.Prelude.{◌≡◌, ◌+◌, ◌++◌, ◌∷◌, [], List, length, IfOk, OnOk, OnErr};
+ghost use Rattle.std.specs.Prelude.{◌≡◌, ◌+◌, ◌++◌, ◌∷◌, [], List, length, IfErr, IfOk, OnOk};
 ghost use Rattle.upd_text.specs.Units.{Bytes};
 ghost use Rattle.upd_core.specs.Status.{live_of};
+ghost use Rattle.upd_correct.specs.Causes.{IsTextCause, refusal_at_0};
 ghost use Rattle.upd_correct.specs.EditedText.{lines_in};
-ghost use Rattle.upd_correct.specs.LineReads.{IsTakenAs};
+ghost use Rattle.upd_correct.specs.LineReads.{HasDecks, IsTakenAs};
 ghost use Rattle.upd_correct.specs.ReadDecks.{AreReadFrom};
+ghost use Rattle.upd_correct.specs.Refusals.{refusals_at, refusals_of};
 
 use crate::edited_lines::cut_text;
-use crate::plan::check_deck;
+use crate::plan::{deck_problem, set_problem};
 use crate::read_line::{LineRead, read_line};
-use crate::refusal::{Problem, Refusal};
+use crate::refusal::{CorrectError, Problem, Refusal};
 use std::alloc::{AllocError, Global};
 use std::marker::Model;
 use upd_core::{Library, Live};
@@ -72,8 +74,31 @@ impl<'a> EditedDeck<'a> {
     }
 }
 
+/// The decks of an edited text, where nothing is wrong with it nor with the name of the set.
+pub(crate) fn decks_of<'a>(
+    alloc: Global,
+    library: &Library,
+    live: &Live,
+    set: &[u8],
+    text: &'a [u8],
+) -> Result<Vec<EditedDeck<'a>>, CorrectError>
+    requires { live.now ≡ live_of library.now }
+    ensures given { IfOk result (λ decks. HasDecks text.now decks.items) }
+    ensures clean { OnOk result (refusals_of library.now set.now text.now ≡ []) }
+    ensures refused { IfErr result (IsTextCause library.now set.now text.now) }
+{
+    let mut refusals = Vec::new(alloc);
+    refuse(&mut refusals, 0, 0, set_problem(library, set))?;
+    let decks = read_decks(alloc, library, live, set, text, &mut refusals)?;
+    if refusals.is_empty() {
+        Ok(decks)
+    } else {
+        Err(CorrectError::Refused(refusals))
+    }
+}
+
 /// The decks of an edited text. Each line with a problem adds a refusal.
-pub(crate) fn read_decks<'a>(
+fn read_decks<'a>(
     alloc: Global,
     library: &Library,
     live: &Live,
@@ -112,7 +137,8 @@ fn take_line<'a>(
 {
     match read {
         LineRead::Head(deck) => {
-            check_deck(library, live, set, decks, &deck, number, refusals)?;
+            let problem = deck_problem(library, live, set, decks, &deck);
+            refuse(refusals, number, 1, problem)?;
             decks.push(deck)?;
         }
         LineRead::Card(text) => match decks.pop() {
@@ -120,28 +146,42 @@ fn take_line<'a>(
                 deck.push_line(text)?;
                 decks.push(deck)?;
             }
-            None => refuse(refusals, number, 1, Problem::NoDeck)?,
+            None => refuse(refusals, number, 1, Some(Problem::NoDeck))?,
         },
-        LineRead::Wrong { column, problem } => refuse(refusals, number, column, problem)?,
+        LineRead::Wrong { column, problem } => refuse(refusals, number, column, Some(problem))?,
     }
     Ok(())
 }
 
-/// Adds a refusal.
-pub(crate) fn refuse(
+/// Adds the refusal of a problem, if there is one.
+fn refuse(
     refusals: &mut Vec<Refusal>,
     line: usize,
     column: usize,
-    problem: Problem,
+    problem: Option<Problem>,
 ) -> Result<(), AllocError>
-    ensures ok { OnOk result (refusals.new.items
-        ≡ refusals.old.items ++ record { line = line; column = column; problem = problem } ∷ []) }
-    ensures err { OnErr result (refusals.new.items ≡ refusals.old.items) }
+    ensures { OnOk result (refusals.new.items ≡ refusals.old.items ++ refusals_at line column problem) }
 {
-    refusals.push(Refusal {
-        line,
-        column,
-        problem,
-    })?;
+    if let Some(problem) = problem {
+        refusals.extend_from_slice(&[Refusal {
+            line,
+            column,
+            problem,
+        }])?;
+    }
     Ok(())
+}
+
+/// The refusal of a problem that is not one of a line.
+pub(crate) fn refusal_at_0(alloc: Global, problem: Problem) -> Result<Vec<Refusal>, AllocError>
+    ensures { IfOk result (λ refusals. refusals.items ≡ refusal_at_0 problem ∷ []) }
+{
+    Vec::from_slice(
+        alloc,
+        &[Refusal {
+            line: 0,
+            column: 0,
+            problem,
+        }],
+    )
 }

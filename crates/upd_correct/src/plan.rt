@@ -1,16 +1,15 @@
 //! Plans: the corrections of held decks, and the new decks.
 
-ghost use Rattle.std.specs.Prelude.{◌≡◌, ◌++◌, IfOk, OnOk, map};
+ghost use Rattle.std.specs.Prelude.{◌≡◌, IfOk, map};
 ghost use Rattle.std.specs.List.{list_any};
 ghost use Rattle.std.specs.Str.{bytes_eq};
 ghost use Rattle.upd_core.specs.Status.{live_of};
 ghost use Rattle.upd_correct.specs.Checked.{new_decks};
 ghost use Rattle.upd_correct.specs.Problems.{deck_problem, first_problem, name_problem, set_problem};
-ghost use Rattle.upd_correct.specs.Refusals.{refusals_at};
 
-use crate::edited_deck::{EditedDeck, refuse};
+use crate::edited_deck::EditedDeck;
 use crate::matching::matches_of;
-use crate::refusal::{Problem, Refusal};
+use crate::refusal::Problem;
 use crate::script::{Segment, segments_for};
 use std::alloc::{AllocError, Global};
 use upd_core::{Card, Library, Live, Serial};
@@ -46,28 +45,8 @@ pub(crate) fn set_problem(library: &Library, set: &[u8]) -> Option<Problem>
     None
 }
 
-/// Adds a refusal for a deck with a problem, which follows others in the text and begins at a line.
-pub(crate) fn check_deck(
-    library: &Library,
-    live: &Live,
-    set: &[u8],
-    earlier: &[EditedDeck],
-    deck: &EditedDeck,
-    line: usize,
-    refusals: &mut Vec<Refusal>,
-) -> Result<(), AllocError>
-    requires { live.now ≡ live_of library.now }
-    ensures { OnOk result (refusals.new.items ≡ refusals.old.items
-        ++ refusals_at line 1 (deck_problem library.now set.now (map (λ d. d.name) earlier.now) deck.now)) }
-{
-    if let Some(problem) = deck_problem(library, live, set, earlier, deck) {
-        refuse(refusals, line, 1, problem)?;
-    }
-    Ok(())
-}
-
 /// What is wrong with a deck that follows others in the text.
-fn deck_problem(
+pub(crate) fn deck_problem(
     library: &Library,
     live: &Live,
     set: &[u8],
@@ -77,7 +56,7 @@ fn deck_problem(
     requires { live.now ≡ live_of library.now }
     ensures { result ≡ deck_problem library.now set.now (map (λ d. d.name) earlier.now) deck.now }
 {
-    if is_among(earlier, &deck.name) {
+    if has_name(earlier, &deck.name) {
         return Some(Problem::DeckTwice);
     }
     match library.deck_of(&deck.name) {
@@ -86,18 +65,11 @@ fn deck_problem(
     }
 }
 
-/// Whether a name is among those of these decks.
-fn is_among(decks: &[EditedDeck], name: &Name) -> bool
-    ensures { result ≡ list_any (λ n. bytes_eq n name.now) (map (λ d. d.name) decks.now) }
-{
-    has_name(decks, name)
-}
-
 /// Whether one of these decks has a name.
 fn has_name(decks: &[EditedDeck], name: &Name) -> bool
-    ensures { result ≡ list_any (λ d. bytes_eq d.name name.now) decks.now }
+    ensures { result ≡ list_any (λ n. bytes_eq n name.now) (map (λ d. d.name) decks.now) }
 {
-    decks.iter().any(|deck| deck.name == *name)
+    decks.iter().map(|deck| deck.name).any(|held| held == *name)
 }
 
 /// What is wrong with the first line of a held deck.

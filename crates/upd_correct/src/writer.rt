@@ -70,12 +70,9 @@ fn is_named(run: &[u8], ident: &[u8]) -> bool {
 
 /// Whether a line begins with a word and then the name of a card of an ident.
 fn is_first(line: &[u8], word: &[u8], ident: &[u8]) -> bool {
-    let Some(field) = line.strip_prefix(word) else {
-        return false;
-    };
-    match field.strip_prefix(ident) {
-        Some([b'.', ..]) => true,
-        _ => false,
+    match line.strip_prefix(word) {
+        Some(field) => matches!(field.strip_prefix(ident), Some([b'.', ..])),
+        None => false,
     }
 }
 

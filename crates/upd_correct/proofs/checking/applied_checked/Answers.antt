@@ -1,5 +1,5 @@
 use Rattle.upd_correct.proofs.Common.{◌≡◌, [], Bool, arith, IsTrue, nat_tests, Reached, live_targets, Corrects, IsChecked}
-use Rattle.upd_correct.proofs.ListLemmas.{no_items}
+use Rattle.std.proofs.lemmas.List.{nil_from_length}
 use Rattle.upd_correct.proofs.TextLemmas.{ok_weaker}
 use Rattle.upd_correct.proofs.checking.applied_checked.Goals as goal
 
@@ -11,7 +11,7 @@ returns-clause-whole c =
       compile = c.in_ok-reached.reached.compile.items;
     } in
     let none : c.in_ok-reached.reached.compile.items ≡ [] =
-    no_items c.in_ok-reached.reached.compile.items
+    nil_from_length c.in_ok-reached.reached.compile.items
     (grind (arith, nat_tests, c.in_ok-reached.reached.compile.ok, c.is_empty.ensures, c.if-not-is_empty.false)) in
     ok_weaker (λ (ok : Bool). IsTrue ok → Corrects (live_targets c.args.base.now.taken.now) c.args.base.now.last c.args.base.now.library.now
     c.args.set.now c.args.run.now c.args.decks.now c.in_ok-reached.reached.library)

@@ -23,12 +23,7 @@ next l set text runs now run bytes before after was corrects same reached grown 
     subst (λ runs. Follows l set (bytes_of runs) after) (sym grown)
     (one_more l set runs run text before after was corrects (subst (λ run. IsReached run before after) same reached))
 
-pub returns-in-Some-clause-follows : goal.returns-in-Some-clause-follows
-returns-in-Some-clause-follows c l set text was corrects =
-    next l set text c.args.runs.now.items c.push.new.self.items c.args.run c.deref.result.now c.args.library.now c.apply_run.new.library was corrects
-    c.deref.ensures.value c.in_ok-apply_run.ensures c.in_ok-push.ensures.items
-
-pub returns-in-None-clause-follows : goal.returns-in-None-clause-follows
-returns-in-None-clause-follows c l set text was corrects =
+pub returns-clause-follows : goal.returns-clause-follows
+returns-clause-follows c l set text was corrects =
     next l set text c.args.runs.now.items c.push.new.self.items c.args.run c.deref.result.now c.args.library.now c.apply_run.new.library was corrects
     c.deref.ensures.value c.in_ok-apply_run.ensures c.in_ok-push.ensures.items
