@@ -28,6 +28,6 @@ pub use Rattle.upd_correct.specs.ReadDecks.{AreReadFrom}
 pub use Rattle.upd_correct.specs.Refusals.{head_read, lines_refusals, refusals_at, refusals_of}
 pub use Rattle.upd_correct.specs.declared.refusal.CorrectError.{CorrectError}
 pub use Rattle.upd_correct.specs.declared.refusal.Refusal.{Refusal}
-pub use Rattle.upd_deck.proofs.Common.{AllZip, LineView, is_allowed, is_feed, reading, take_all, take_more}
+pub use Rattle.upd_deck.proofs.Common.{AllZip, is_allowed, is_feed, reading, take_all, take_more}
 pub use Rattle.upd_text.specs.Units.{Bytes}
 pub use Rattle.upd_text.specs.declared.limits.TheConstants.{MAX_CARDS}

@@ -1,13 +1,9 @@
 -- The lines of an edited text, and how they are read.
 use Rattle.upd_correct.proofs.Common.{◌≡◌, ℕ, zero, suc, ◌+◌, ◌<◌, false, List, [], ◌∷◌, ◌++◌, length, take, drop, get_or, refl, sym, ap}
-use Rattle.upd_correct.proofs.Common.{◌∙◌, subst, arith, append-nil, append_assoc, take_more, flat_map-append, map, map-append, Ok, flat_map, AllByRecursion}
-use Rattle.upd_correct.proofs.Common.{AllZip, LineView, is_feed, reading, NewDeck, lines_in, line_problem, head_read}
-use Rattle.std.specs.Prelude.{None}
-use Rattle.upd_deck.specs.Items.{ItemView, Text, Call}
+use Rattle.upd_correct.proofs.Common.{◌∙◌, subst, arith, append-nil, append_assoc, take_more, flat_map-append, map, map-append, flat_map, AllByRecursion}
+use Rattle.upd_correct.proofs.Common.{AllZip, is_feed, NewDeck, lines_in}
 use Rattle.upd_correct.specs.EditedText.{First, Further, begun_with, lines_of_deck}
 use Rattle.upd_correct.specs.LineReads.{IsReadAs}
-use Rattle.upd_correct.specs.Problems.{item_problem}
-use Rattle.upd_correct.specs.Refusals.{head_by_item}
 
 -- ---- lines
 
@@ -41,29 +37,6 @@ lines_at_feed bytes i within none feed =
     ∙ lines_from_feed (take i bytes) (drop (i + 1) bytes) none
     ∙ ap (λ line. line ∷ lines_in (drop (i + 1) bytes))
     (ap (λ b. take i bytes ++ b ∷ []) (sym feed) ∙ sym (take_more bytes i 0 within))
-
--- ---- the line of a card
-
--- an item that becomes a card: text or a call
-abbrev pub IsCardItem : ItemView → Type 0
-IsCardItem Text = Unit {0}
-IsCardItem (Call name) = Unit {0}
-IsCardItem _ = ⊥
-
--- a line that is read as text or a call is a further line
-pub read_card : (bytes : List ℕ) (read : LineView) → reading bytes ≡ Ok (read ∷ []) → IsCardItem read.item → IsReadAs bytes (Further read.text)
-read_card bytes read e is =
-    ((ap line_problem e ∙ no_problem read.item is, ap head_read e ∙ no_head read.text read.item is), read, e, refl)
-  where
-    no_problem : (item : ItemView) → IsCardItem item → item_problem item ≡ None
-    no_problem Text is = refl
-    no_problem (Call name) is = refl
-    no_problem _ is = absurd is
-
-    no_head : (text : List ℕ) (item : ItemView) → IsCardItem item → head_by_item text item ≡ None
-    no_head text Text is = refl
-    no_head text (Call name) is = refl
-    no_head text _ is = absurd is
 
 -- ---- decks grow line by line
 
