@@ -807,6 +807,29 @@ try_strangers() {
     done
 }
 
+# What is beside LIST stays, whatever its name is; a relative TMPDIR with =; and a file in a folder that can't be searched isn't gone (root can search all).
+try_neighbours() {
+    rm -rf p.db p.db-wal mine LIST.P LIST.P.new own=er out.1 && mkdir -p mine/d own=er && oslo_number=0
+    echo a >mine/a.c && echo b >mine/d/b.c && echo own >LIST.P.new && ln -s nowhere LIST.P.new.new
+    expect 0 "$upd" init p.db
+    find mine -type f | sort >names
+    expect 0 env TMPDIR=own=er sh "$root/examples/bring.sh" --c --list LIST.P p.db LYON 1 <names && cp out spool
+    sed 's|path mine/|path |' LIST.P >new && cat new >LIST.P
+    expect 0 "$upd" spool p.db <spool
+    expect 0 env TMPDIR=own=er sh "$root/examples/tree.sh" --list LIST.P p.db out.1
+    must diff -r mine out.1
+    echo more >>mine/a.c
+    expect 0 script put --yes p.db LYON LIST.P mine
+    must [ "$(cat LIST.P.new)" = own ]
+    must [ -L LIST.P.new.new ]
+    must [ ! -e LIST.P.new.new.new ]
+    chmod 000 mine/d
+    if [ "$(id -u)" -eq 0 ]; then unsearched=0; else unsearched=1; fi
+    expect $unsearched script put --gone --yes p.db LYON LIST.P mine
+    chmod 755 mine/d
+    must [ "$(grep -c '^deck' LIST.P)" -eq 2 ]
+}
+
 try_site() {
     mkdir -p site/outbox && printf '*DECK S\nONE\n' >site/outbox/a.quick
     expect 0 script site site BERN l.db
@@ -846,6 +869,7 @@ try_tools() {
     try_asides
     try_places
     try_strangers
+    try_neighbours
     try_site
     PATH=$old_path
     [ -e "$work/LIST" ] || cp LIST.LYON "$work/LIST"

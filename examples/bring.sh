@@ -79,8 +79,8 @@ check_words
 
 tree=$(script tree) && cards=$(script cards) || exit 3
 
-work=$(mktemp -d) || exit 3
-trap 'rm -rf "$work"' EXIT
+make_work
+trap 'rm -rf "$work" ${free:+"$free"}' EXIT
 trap 'exit 3' HUP INT TERM
 spool=$work/spool added=$work/added taken=$work/taken
 if [ -n "$message" ]; then printf '*/ %s\n' "$message"; fi >"$work/message" || exit 3
@@ -256,8 +256,10 @@ done <"$added"
 if [ -n "$list" ]; then
     sed "s|^since\$|since $(tail -n 1 "$taken")|" "$work/list" >"$work/new" && listed=$list || exit 3
     [ ! -L "$list" ] || listed=$(readlink -f "$list") || exit 3
-    cat "$work/old" "$work/new" >"$listed.new" && { [ ! -e "$list" ] || chmod "$(mode_of "$list")" "$listed.new"; } || exit 3
+    free_name "$listed.new" .new
+    cat "$work/old" "$work/new" >"$free" && { [ ! -e "$list" ] || chmod "$(mode_of "$list")" "$free"; } || exit 3
 fi
 cat "$spool" || exit 3
-[ -z "$list" ] || mv -f "$listed.new" "$listed" || exit 3
+[ -z "$list" ] || mv -f "$free" "$listed" || exit 3
+free=''
 cat "$work/report" >&2

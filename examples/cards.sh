@@ -36,7 +36,8 @@ done
 }
 empty=$1 file=$2 notes=$3 upd=${UPD:-upd} codes=''
 
-work=$(mktemp -d) || exit 3
+unset CDPATH
+work=$(mktemp -d) && work=$(cd -- "$work" && pwd) || exit 3 # awk may take a relative name with = for an assignment
 trap 'rm -rf "$work"' EXIT
 trap 'exit 3' HUP INT TERM
 

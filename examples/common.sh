@@ -9,6 +9,14 @@
 #     sets     the sets of the edit, in order
 #     last     the number of the edit's last run
 
+free=''
+unset CDPATH
+
+# A folder for what the script needs, by its whole path: of another awk may take a name with = for an assignment.
+make_work() {
+    work=$(mktemp -d) && work=$(cd -- "$work" && pwd) || exit 3
+}
+
 say() {
     printf '%s: %s\n' "${0##*/}" "$*" >&2
 }
@@ -67,13 +75,21 @@ lock_list() {
     done
 }
 
+# The first of a name, that with an end, that with two and so on that is not there yet.
+free_name() {
+    free=$1
+    while [ -e "$free" ] || [ -L "$free" ]; do free=$free$2; done
+}
+
 # LIST becomes what awk, with these words, makes of it: all or nothing. `cat` sees that the disk is full, busybox awk doesn't.
 # A link to LIST stays a link, and the rights stay.
 change_list() {
     rm -f "$work/whole" && listed=$list || exit 3
     [ ! -L "$list" ] || listed=$(readlink -f "$list") || exit 3
-    { awk "$@" <"$list" && : >"$work/whole"; } | cat >"$listed.new" && [ -e "$work/whole" ] \
-        && chmod "$(mode_of "$list")" "$listed.new" && mv -f "$listed.new" "$listed" || exit 3
+    free_name "$listed.new" .new
+    { awk "$@" <"$list" && : >"$work/whole"; } | cat >"$free" && [ -e "$work/whole" ] \
+        && chmod "$(mode_of "$list")" "$free" && mv -f "$free" "$listed" || exit 3
+    free=''
 }
 
 # The rights of a file.

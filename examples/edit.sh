@@ -66,7 +66,7 @@ shift 2
 check_words
 again='the text has to be taken again'
 
-work=$(mktemp -d) && work=$(cd -- "$work" && pwd) || exit 3
+make_work
 runs=$work/runs
 
 # Whether a text is not as it was taken.
@@ -80,6 +80,7 @@ is_edited() {
 
 # Only a reply that came lets edited texts go.
 leave() {
+    [ -z "$free" ] || rm -f "$free"
     if [ -z "$sent" ] && is_edited; then say "the texts are in $work"; else rm -rf "$work"; fi
 }
 trap leave EXIT

@@ -85,9 +85,8 @@ if [ ! -f "$list" ] || [ ! -d "$folder" ]; then
     exit 3
 fi
 put=$list.put runs=$list.put asked=$asked$yes
-unset CDPATH
-work=$(mktemp -d) && work=$(cd -- "$work" && pwd) || exit 3
-trap 'rm -rf "$work"' EXIT
+make_work
+trap 'rm -rf "$work" ${free:+"$free"}' EXIT
 trap 'exit 3' HUP INT TERM
 export TMPDIR="${work%/*}" # bring.sh works in FOLDER
 case $upd in /*) ;; */*) upd=$(pwd)/$upd ;; esac # bring.sh works in FOLDER
@@ -256,16 +255,19 @@ inner_path() {
 write_file() {
     file=$folder/$1
     [ ! -L "$file" ] || file=$(readlink -f "$file") || exit 3
-    beside=${file%/*}/.upd.part
-    while [ -e "$beside" ] || [ -L "$beside" ]; do beside=$beside.part; done
-    if cat "$2" >"$beside" && { [ ! -e "$file" ] || chmod "$(mode_of "$file")" "$beside"; }; then
+    free_name "${file%/*}/.upd.part" .part
+    if cat "$2" >"$free" && { [ ! -e "$file" ] || chmod "$(mode_of "$file")" "$free"; }; then
         if [ $# -gt 2 ] && ! cmp -s "$3" "$file"; then
-            rm -f "$beside"
+            rm -f "$free"
+            free=''
             return 1
         fi
-        if mv -f "$beside" "$file"; then return; fi
+        if mv -f "$free" "$file"; then
+            free=''
+            return
+        fi
     fi
-    rm -f "$beside"
+    rm -f "$free"
     say "$1 can't be written, and is as it was. Once it can be, start it again"
     exit 3
 }
@@ -452,7 +454,7 @@ fi
 
 # What is there else was killed before it sent.
 rm -rf "$put" && mkdir -- "$put" || exit 3
-trap 'rm -rf "$work"; [ -e "$put/ready" ] || rm -rf "$put"' EXIT
+trap 'rm -rf "$work" ${free:+"$free"}; [ -e "$put/ready" ] || rm -rf "$put"' EXIT
 ask_message
 
 # The library as it is now, from which all is made, and its tree.
@@ -518,11 +520,21 @@ has_noted_rights() {
     [ "$rights" = "$noted" ] || [ "$rights" = "$(mode_of "$work/tree/$path")" ]
 }
 
+# Whether a path of FOLDER can be looked at: the folders that it leads through can be searched, as far as they are there.
+is_searched() {
+    above=$folder/$1
+    while [ ! -e "$above" ] && [ "$above" != "$folder" ]; do above=${above%/*}; done
+    [ ! -d "$above" ] || [ -x "$above" ]
+}
+
 # A file that is gone, or became a folder. What others have done to its deck since has to be seen before that goes out of use.
 take_out() {
     is=gone
     if [ -e "$folder/$path" ]; then is='not a file now'; fi
-    if [ -z "$gone" ] && [ "$is" = gone ]; then
+    if ! is_searched "$path"; then
+        say "$path can't be looked at, as its folder can't be searched"
+        unfit=1
+    elif [ -z "$gone" ] && [ "$is" = gone ]; then
         say "$path is gone"
     elif [ -z "$gone" ]; then
         say "$path is $is: --gone takes its deck $deck out of use"
@@ -569,7 +581,7 @@ while read -r deck code since serial sum file_sum noted fit <&3; do
         unfit=1
         continue
     elif [ ! -e "$work/tree/$path" ]; then
-        if [ -n "$gone" ] && [ ! -f "$folder/$path" ]; then
+        if [ -n "$gone" ] && [ ! -f "$folder/$path" ] && is_searched "$path"; then
             printf '%s\n' "$deck" >>"$work/unlisted"
             continue
         fi

@@ -61,8 +61,8 @@ library=$1 folder=$2 upd=${UPD:-upd} result=0
 case $folder in -*) folder=./$folder ;; esac
 case $list in -* | [!/]*=*) list=./$list ;; esac # no option, and no assignment of awk
 
-work=$(mktemp -d) || exit 3
-trap 'rm -rf "$work"' EXIT
+make_work
+trap 'rm -rf "$work" ${free:+"$free"}' EXIT
 trap 'exit 3' HUP INT TERM
 if [ -n "$list" ]; then
     lock_list
