@@ -425,9 +425,13 @@ try_names() {
     expect 0 "$upd" init n.db
     expect 0 answering 'named/a.c\n' script bring --list v=1 n.db LYON 1 && cp out spool
     expect 0 "$upd" spool n.db <spool
-    cp v=1 full && ln -s /dev/full full.new
+    # shellcheck disable=SC2016 # these words are of the script
+    printf '#!/bin/sh\ncase $(readlink /proc/$$/fd/1) in */full.new) head -c 3; exit 1 ;; esac\nexec %s "$@"\n' "$(command -v cat)" >bin/cat && chmod +x bin/cat
+    cp v=1 full
     expect 3 script tree --list full n.db -t
-    must [ ! -L full ]
+    rm bin/cat
+    must cmp v=1 full
+    must [ ! -e full.new ]
     rm -r ./-t
     expect 0 script tree --list v=1 n.db -t </dev/null
     must grep -qx 'since A 1' v=1
