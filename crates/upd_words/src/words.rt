@@ -289,6 +289,7 @@ pub fn trial_is_read()
 
 /// What is asked for by words that are read is the request of the command that they name, and a trial has the mode that
 /// they give it.
+#[tactic(auto, using(crate::proofs::NamedLemmas::asked_name, crate::proofs::NamedLemmas::asked_mode))]
 pub fn requests_have_names()
     ensures named { (words : List Text) (request : RequestView) → word_faults words ≡ [] → IsAskedFor words request
         → command_word words ≡ request_name request }
