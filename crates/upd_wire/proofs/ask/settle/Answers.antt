@@ -1,12 +1,7 @@
-use Rattle.upd_wire.proofs.Common.{ℕ, inl, inr, ap, refl, sym, subst, None, Some, Result, Ok, Err, settle, Fault, Response, IsMarkResponse, no_memory}
-use Rattle.upd_wire.proofs.Common.{answer_seen}
+use Rattle.upd_wire.proofs.Common.{ℕ, inl, refl, sym, subst, None, Some, Result, Ok, Err, settle, Fault, Response, IsMarkResponse}
 use Rattle.upd_wire.specs.declared.http_status.Media.TheVariants.{Json}
 use Rattle.upd_wire.proofs.AskLemmas.{answered_fault}
-use Rattle.upd_wire.proofs.AnswerLemmas.{fault_is}
 use Rattle.upd_wire.proofs.ask.settle.Goals as goal
-
-pub returns-in_err-body : goal.returns-in_err-body
-returns-in_err-body g c = (None, refl, inr (refl, ap answer_seen (fault_is c.from_residual.result no_memory c.from_residual.ensures.1)))
 
 pub returns-in-Ok : goal.returns-in-Ok
 returns-in-Ok g c =

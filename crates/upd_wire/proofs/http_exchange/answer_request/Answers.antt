@@ -1,16 +1,6 @@
-use Rattle.upd_wire.proofs.Common.{None, Err, Result, ℕ, List, refl, sym, subst, asked, IsAskOf, asked_of, IsRead, answer_seen, DeskCall, Refusal}
-use Rattle.upd_wire.proofs.AnswerLemmas.{answers_call, answers_refusal, asks_of}
+use Rattle.upd_wire.proofs.Common.{None, Err, ℕ, List, refl, subst, asked, IsRead}
+use Rattle.upd_wire.proofs.AnswerLemmas.{answers_refusal}
 use Rattle.upd_wire.proofs.http_exchange.answer_request.Goals as goal
-
-pub returns-in-Ok : goal.returns-in-Ok
-returns-in-Ok g c =
-    let (made, leads, asks) = c.ask.ensures in
-    let Asks : Result DeskCall Refusal → Type 0 = λ request. IsAskOf (asked_of request) made in (
-      made,
-      leads,
-      subst Asks (sym c.in-Ok.is) (asks_of (asked c.in-Ok.call) made (answer_seen c.ask.result) asks),
-      λ input says. answers_call input (asked c.in-Ok.call) made (answer_seen c.ask.result) (subst (IsRead asked input) c.in-Ok.is says) asks,
-    )
 
 pub returns-in-Err : goal.returns-in-Err
 returns-in-Err g c =

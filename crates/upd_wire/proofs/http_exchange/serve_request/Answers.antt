@@ -1,4 +1,4 @@
-use Rattle.upd_wire.proofs.Common.{◌≡◌, None, Result, Err, inl, refl, sym, ap, subst, Appends-nil, Fault, ExchangeView, Response, Sends}
+use Rattle.upd_wire.proofs.Common.{None, Result, Err, inl, refl, sym, ap, subst, Appends-nil, Fault, ExchangeView, Response, Sends}
 use Rattle.upd_wire.proofs.AnswerLemmas.{nothing_exchanged}
 use Rattle.upd_wire.proofs.InputLemmas.{some_input}
 use Rattle.upd_wire.proofs.http_exchange.serve_request.Goals as goal
@@ -15,8 +15,3 @@ returns-in-Err g c =
       nothing_exchanged input _ (inl c.from-fault.ensures) _ c.failed.ensures,
       subst IsSent (sym (ap (λ (e : ExchangeView). e.answer) c.failed.ensures)) (refl, Appends-nil writer),
     )
-
-pub returns-in-Ok : goal.returns-in-Ok
-returns-in-Ok g c =
-    let (made, input, leads, is, exchanges) = c.read_and_ask-exchange.ensures in
-    (made, input, leads, is, exchanges, c.send-sent.ensures)

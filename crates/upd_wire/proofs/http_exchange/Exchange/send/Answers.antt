@@ -1,4 +1,4 @@
-use Rattle.upd_wire.proofs.Common.{◌≡◌, ◌++◌, Result, sym, ap₂, ◌∙◌, subst, Fault, answer_seen, Sends, Answer}
+use Rattle.upd_wire.proofs.Common.{◌++◌, Result, sym, ap₂, ◌∙◌, subst, Fault, answer_seen, Sends, Answer}
 use Rattle.upd_wire.specs.Serving.{Puts}
 use Rattle.upd_wire.proofs.http_exchange.Exchange.send.Goals as goal
 
