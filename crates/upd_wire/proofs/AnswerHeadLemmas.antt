@@ -1,8 +1,7 @@
 -- Texts that are put together piece by piece.
-use Rattle.upd_wire.proofs.Common.{◌≡◌, ℕ, ◌+◌, ◌<◌, ◌≤◌, Bool, true, false, ◌&&◌, IsTrue, List, [], ◌∷◌, ◌++◌, Bor, length, get_or, take, drop, codes}
-use Rattle.upd_wire.proofs.Common.{decimal, refl, sym, ap, ap₂, ◌∙◌, add-one, arith, append_assoc, append-nil, at_drop_more, length-append, flat_map-append}
+use Rattle.upd_wire.proofs.Common.{◌≡◌, ℕ, ◌+◌, Bool, true, false, ◌&&◌, IsTrue, List, [], ◌∷◌, ◌++◌, codes}
+use Rattle.upd_wire.proofs.Common.{decimal, refl, sym, ap, ap₂, ◌∙◌, arith, append_assoc, append-nil}
 use Rattle.upd_wire.proofs.Common.{false≢true, nat_tests, concat, flat_map, list_all, is_site}
-use Rattle.std.proofs.Math.Seq.{take-suc}
 use Rattle.upd_text.specs.Keys.{is_site_byte}
 use Rattle.upd_desk.specs.ReplyTexts.{escaped, settled_bytes, settled_text}
 
@@ -12,34 +11,6 @@ put_on old new piece front said is before what = is ∙ ap₂ (λ a b. a ++ b) b
 
 pub of_eight : (a b c d e f g h : List ℕ) → ((((((([] ++ a) ++ b) ++ c) ++ d) ++ e) ++ f) ++ g) ++ h ≡ concat (a ∷ b ∷ c ∷ d ∷ e ∷ f ∷ g ∷ h ∷ [])
 of_eight a b c d e f g h = simp (append_assoc, append-nil)
-
--- the room that the parts from one on need
-room_more : (parts : List (Bor (List ℕ))) (i : ℕ) (d : Bor (List ℕ)) → i < length parts
-    → length (flat_map (λ part. part.now) (drop i parts))
-    ≡ length (get_or parts i d).now + length (flat_map (λ (part : Bor (List ℕ)). part.now) (drop (i + 1) parts))
-room_more parts i d h =
-    let all = λ (parts : List (Bor (List ℕ))). flat_map (λ part. part.now) parts in
-    ap length (at_drop_more all parts i d h) ∙ length-append (get_or parts i d).now (all (drop (i + 1) parts))
-
-pub room_fits : (n room : ℕ) (parts : List (Bor (List ℕ))) (i : ℕ) (d : Bor (List ℕ)) → i < length parts
-    → n + length (flat_map (λ part. part.now) (drop i parts)) ≤ room → n + length (get_or parts i d).now ≤ room
-room_fits n room parts i d h fits = let more = room_more parts i d h in omega (arith, more, fits)
-
-pub room_later : (n m room room' : ℕ) (parts : List (Bor (List ℕ))) (i : ℕ) (d : Bor (List ℕ)) → i < length parts → m ≡ n + length (get_or parts i d).now
-    → n + length (flat_map (λ part. part.now) (drop i parts)) ≤ room → room ≤ room'
-    → m + length (flat_map (λ (part : Bor (List ℕ)). part.now) (drop (i + 1) parts)) ≤ room'
-room_later n m room room' parts i d h grown fits more = let need = room_more parts i d h in omega (arith, need, grown, fits, more)
-
--- one part more is there
-pub parts_put : (first old new : List ℕ) (parts : List (Bor (List ℕ))) (i : ℕ) (d : Bor (List ℕ)) → i < length parts → new ≡ old ++ (get_or parts i d).now
-    → old ≡ first ++ flat_map (λ part. part.now) (take i parts) → new ≡ first ++ flat_map (λ part. part.now) (take (i + 1) parts)
-parts_put first old new parts i d h is was =
-    let all = λ (parts : List (Bor (List ℕ))). flat_map (λ part. part.now) parts in
-    let more : all (take (i + 1) parts) ≡ all (take i parts) ++ (get_or parts i d).now =
-    ap (λ n. all (take n parts)) (add-one i) ∙ ap all (take-suc parts i d h)
-    ∙ flat_map-append (λ (part : Bor (List ℕ)). part.now) (take i parts) (get_or parts i d ∷ [])
-    ∙ ap (λ l. all (take i parts) ++ l) (append-nil (get_or parts i d).now) in
-    is ∙ ap (λ l. l ++ (get_or parts i d).now) was ∙ append_assoc first (all (take i parts)) (get_or parts i d).now ∙ ap (λ l. first ++ l) (sym more)
 
 both_true : (x y : Bool) → (x && y) ≡ true → (x ≡ true) × (y ≡ true)
 both_true true true is = (refl, refl)

@@ -1,13 +1,12 @@
 -- What is read of a frame before it stops.
 use Rattle.upd_wire.proofs.Common.{◌≡◌, ℕ, ◌<◌, ◌≤◌, ◌≢◌, ◌==◌, zero, suc, false, List, [], ◌∷◌, ◌++◌, length, take, get_or, Option, Some, Result, Ok, Err}
-use Rattle.upd_wire.proofs.Common.{inl, inr, refl, sym, ap, ◌∙◌, subst, arith, append_assoc, append-nil, or_from, take_all, list_any-append, Consumes}
+use Rattle.upd_wire.proofs.Common.{refl, sym, ap, ◌∙◌, subst, arith, append_assoc, append-nil, or_from, take_all, list_any-append, Consumes}
 use Rattle.upd_wire.proofs.Common.{Consumes-trans, FaultKind, BadFrame, NoMemory, Read, HeaderView, IsHeader, header_text, IsBad, IsFrame}
 use Rattle.upd_wire.specs.Header.{header_of}
 use Rattle.upd_wire.proofs.Common.{arrival_of, frame_text, has_lf, no_lf, no_end, in_run, StopsRun, Stops}
 use Rattle.std.proofs.lemmas.Bool.{ne_eqb}
 use Rattle.std.specs.Result.{IsErrAnd}
 use Rattle.upd_text.specs.declared.fault.FaultKind.TheVariants.{CutFrame}
-use Rattle.upd_wire.specs.Inputs.{IsReadFailure}
 use Rattle.upd_wire.specs.Exchange.{StopsEnd}
 use Rattle.upd_wire.proofs.FrameLemmas.{cut_is_no_frame, frame_made}
 use Rattle.upd_wire.proofs.HeaderLemmas.{header_is_spelled}
@@ -42,12 +41,6 @@ end_stops BadFrame size bytes taken input' all (b, is, other) = (bytes, b, ap (�
 end_stops CutFrame size bytes taken input' all (is, end) = (rw is (rw append-nil (omega (arith, all))), end)
 end_stops Read size bytes taken input' all is = rw is (rw append-nil (omega (arith, all)))
 end_stops _ size bytes taken input' all stops = absurd stops
-
--- the run was not read whole: there was no memory for it, or a read failed
-pub failure_stops : (kind : FaultKind) (size : ℕ) (taken : List ℕ) (input' : Option (List ℕ)) → IsReadFailure kind → length taken ≤ size
-    → StopsRun kind size taken input'
-failure_stops kind size taken input' (inl memory) few = rw memory few
-failure_stops kind size taken input' (inr failed) few = rw failed few
 
 -- so no frame was read whose header was
 pub run_stops : (kind : FaultKind) (h : HeaderView) (taken : List ℕ) (input' : Option (List ℕ)) → IsHeader h → StopsRun kind h.size taken input'

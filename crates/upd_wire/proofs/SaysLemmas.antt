@@ -1,7 +1,6 @@
 -- What an input asks of the desk.
 use Rattle.upd_wire.proofs.Common.{◌≡◌, ℕ, List, inl, inr, Result, Ok, sym, ap₂, ◌∙◌, Asked, Says, judged, Refusal}
 use Rattle.httparse.proofs.GrammarLemmas.{request_unique}
-use Rattle.upd_wire.specs.Requests.{HasCutHead}
 
 same_ok : {a b : Asked} (outcome : Result Asked Refusal) → Ok a ≡ outcome → Ok b ≡ outcome → a ≡ b
 same_ok outcome first second = cc
@@ -15,8 +14,3 @@ one_asked input asked other (inl read) (inr (inl (bad, is))) = absurd (cc)
 one_asked input asked other (inl read) (inr (inr (cut, is))) = absurd (cc)
 one_asked input asked other (inr (inl (bad, is))) says = absurd (cc)
 one_asked input asked other (inr (inr (cut, is))) says = absurd (cc)
-
-pub asked_is_whole : (input : List ℕ) (asked : Asked) → Says input (Ok asked) → ¬ (HasCutHead input)
-asked_is_whole input asked (inl (h, rest, small, reads, is)) (few, none, begun) = none h rest reads
-asked_is_whole input asked (inr (inl (bad, is))) cut = absurd (cc)
-asked_is_whole input asked (inr (inr (ends, is))) cut = absurd (cc)
