@@ -58,13 +58,10 @@ abbrev pub switched_off_by : LibraryView → Serial → CardView → Option Byte
 switched_off_by l deck card =
     option_and_then (λ e. if e.active then None else Some (name_of l.idents e.ident)) (last_entry (live_targets l) deck card)
 
--- the same of the card that a reference names
-abbrev pub off_by : CardRef → LibraryView → Option Bytes
-off_by card l = option_and_then (λ p. option_and_then (switched_off_by l p.deck) (card_in p l)) (place_of card l)
-
 -- the warning of a card that is off already
 abbrev pub off_kind : CardRef → LibraryView → Option WarningKind
-off_kind card l = option_map (λ by. OffAlready card by) (off_by card l)
+off_kind card l =
+    option_and_then (λ p. option_and_then (λ c. option_map (OffAlready card) (switched_off_by l p.deck c)) (card_in p l)) (place_of card l)
 
 -- ---- ranges
 
@@ -93,13 +90,9 @@ conflict_kind met = option_map (λ w. Conflict w) met
 abbrev pub came_again : Bytes → LibraryView → Bool
 came_again name l = list_any (λ i. not i.held && bytes_eq i.name name) l.idents
 
--- the conflict of a name that a purged ident has as well
-abbrev pub again_by : Bytes → LibraryView → Option WarningKind
-again_by name l = if came_again name l then Some (Conflict (CameAgain name)) else None
-
--- that of SINCE, where it is given
+-- the conflict of a SINCE whose name a purged ident has as well
 abbrev pub again_kind : Option Bytes → LibraryView → Option WarningKind
-again_kind since l = option_and_then (λ name. again_by name l) since
+again_kind since l = option_and_then (λ name. if came_again name l then Some (Conflict (CameAgain name)) else None) since
 
 -- ---- lines and runs
 

@@ -61,6 +61,17 @@ impl<'a> Model for Seen<'a> {
     ghost invariant = { λ s. (s.live.now ≡ live_of s.library.now) × (s.earlier.now.targets ≡ live_since s.since s.library.now) };
 }
 
+/// The cards from an index on.
+fn back_of(cards: &[Card], from: usize) -> &[Card]
+    ensures { result.now ≡ drop from cards.now }
+{
+    if from < cards.len() {
+        &cards[from..]
+    } else {
+        &[]
+    }
+}
+
 /// The cards before an index.
 fn front_of(cards: &[Card], from: usize) -> &[Card]
     ensures { result.now ≡ take from cards.now }
@@ -189,33 +200,29 @@ impl<'a> Seen<'a> {
         }
     }
 
-    /// The first card of a line's range that has changed, and is of a younger ident.
-    fn put_card<'b>(&self, deck: Serial, cards: &'b [Card], line: &Touched) -> Option<&'b Card>
-        ensures { option_copied result ≡ find (is_put self.now deck) (drop line.now.from (take line.now.to cards.now)) }
+    /// The first of some cards that has changed, and is of a younger ident.
+    fn put_card<'b>(&self, deck: Serial, cards: &'b [Card]) -> Option<&'b Card>
+        ensures { option_copied result ≡ find (is_put self.now deck) cards.now }
     {
-        cards.iter().take(line.to).skip(line.from).find(|card| self.since < card.ident
-            && self.is_changed(deck, card))
+        cards.iter().find(|card| self.since < card.ident && self.is_changed(deck, card))
     }
 
-    /// The first card of a line's range that has changed.
-    fn changed_card<'b>(&self, deck: Serial, cards: &'b [Card], line: &Touched) -> Option<&'b Card>
-        ensures { option_copied result ≡ find (is_changed self.now deck) (drop line.now.from (take line.now.to cards.now)) }
+    /// The first of some cards that has changed.
+    fn changed_card<'b>(&self, deck: Serial, cards: &'b [Card]) -> Option<&'b Card>
+        ensures { option_copied result ≡ find (is_changed self.now deck) cards.now }
     {
-        cards
-            .iter()
-            .take(line.to)
-            .skip(line.from)
-            .find(|card| self.is_changed(deck, card))
+        cards.iter().find(|card| self.is_changed(deck, card))
     }
 
     /// The conflict of a line in its range.
     fn met_inside(&self, deck: Serial, cards: &[Card], line: &Touched) -> Option<Conflict>
         ensures { result ≡ met_inside self.now deck cards.now line.now }
     {
-        if let Some(card) = self.put_card(deck, cards, line) {
+        let range = back_of(front_of(cards, line.to), line.from);
+        if let Some(card) = self.put_card(deck, range) {
             return Some(self.put_inside(line.deletes, card));
         }
-        let card = self.changed_card(deck, cards, line)?;
+        let card = self.changed_card(deck, range)?;
         Some(self.older_conflict(deck, card))
     }
 
@@ -245,7 +252,9 @@ impl<'a> Seen<'a> {
     fn line_behind<'b>(&self, deck: Serial, cards: &'b [Card], to: usize) -> Option<&'b Card>
         ensures { option_copied result ≡ line_behind self.now deck cards.now to }
     {
-        cards.iter().skip(to).find(|card| self.is_line(deck, card))
+        back_of(cards, to)
+            .iter()
+            .find(|card| self.is_line(deck, card))
     }
 
     /// The first conflict of a line at a deck: inside of its change, before it, and after it.

@@ -8,9 +8,9 @@ ghost use Rattle.upd_deck.specs.Reading.{reading};
 ghost use Rattle.upd_text.specs.Lines.{is_comment};
 ghost use Rattle.upd_text.specs.Outcome.{GivesAt};
 ghost use Rattle.upd_edit.specs.Found.{conflicts_among, found};
-ghost use Rattle.upd_edit.specs.Warnings.{again_by, again_kind, came_again, cards_between, comment_warnings, conflict_kind, conflicts, deletion_warnings};
-ghost use Rattle.upd_edit.specs.Warnings.{empty_kind, last_entry, line_warnings, lines_of, off_by, off_kind, read_warnings, restored_warnings};
-ghost use Rattle.upd_edit.specs.Warnings.{run_warnings, seen_by, text_kind, warning_list, wide_kind};
+ghost use Rattle.upd_edit.specs.Warnings.{again_kind, came_again, cards_between, comment_warnings, conflict_kind, conflicts, deletion_warnings};
+ghost use Rattle.upd_edit.specs.Warnings.{empty_kind, last_entry, line_warnings, lines_of, off_kind, read_warnings, restored_warnings};
+ghost use Rattle.upd_edit.specs.Warnings.{run_warnings, seen_by, switched_off_by, text_kind, warning_list, wide_kind};
 ghost use Rattle.upd_edit.specs.YankWarnings.{taking_warnings};
 
 use crate::earlier::with_younger_yanked;
@@ -185,19 +185,10 @@ fn again_kind(library: &Library, since: &Option<Name>) -> Option<WarningKind>
     ensures { result ≡ again_kind since.now library.now }
 {
     match since {
-        Some(name) => again_by(library, *name),
-        None => None,
-    }
-}
-
-/// The warning of a name that a purged ident has.
-fn again_by(library: &Library, since: Name) -> Option<WarningKind>
-    ensures { result ≡ again_by since library.now }
-{
-    if came_again(library, &since) {
-        Some(WarningKind::Conflict(Conflict::CameAgain { since }))
-    } else {
-        None
+        Some(since) if came_again(library, since) => {
+            Some(WarningKind::Conflict(Conflict::CameAgain { since: *since }))
+        }
+        _ => None,
     }
 }
 
@@ -308,19 +299,17 @@ fn off_kind(library: &Library, live: &Live, card: &CardRef) -> Option<WarningKin
     requires { live.now ≡ live_of library.now }
     ensures { result ≡ off_kind card.now library.now }
 {
-    match off_by(library, live, card) {
-        Some(by) => Some(WarningKind::OffAlready { card: *card, by }),
-        None => None,
-    }
+    let place = library.card_at(*card)?;
+    let by = switched_off_by(library, live, place.deck, library.card_in(place)?)?;
+    Some(WarningKind::OffAlready { card: *card, by })
 }
 
-/// The name of the ident that switched a card off, if its last entry that counts does.
-fn off_by(library: &Library, live: &Live, card: &CardRef) -> Option<Name>
+/// The name of the ident that switched a card of a deck off, if its last entry that counts does.
+fn switched_off_by(library: &Library, live: &Live, deck: Serial, card: &Card) -> Option<Name>
     requires { live.now ≡ live_of library.now }
-    ensures { result ≡ off_by card.now library.now }
+    ensures { result ≡ switched_off_by library.now deck card.now }
 {
-    let place = library.card_at(*card)?;
-    let entry = last_entry(live, place.deck, library.card_in(place)?)?;
+    let entry = last_entry(live, deck, card)?;
     if entry.active {
         return None;
     }
