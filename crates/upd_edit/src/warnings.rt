@@ -11,7 +11,6 @@ ghost use Rattle.upd_edit.specs.Found.{conflicts_among, found};
 ghost use Rattle.upd_edit.specs.Warnings.{again_kind, came_again, cards_between, comment_warnings, conflict_kind, conflicts, deletion_warnings};
 ghost use Rattle.upd_edit.specs.Warnings.{empty_kind, last_entry, line_warnings, lines_of, off_kind, read_warnings, restored_warnings};
 ghost use Rattle.upd_edit.specs.Warnings.{run_warnings, seen_by, switched_off_by, text_kind, warning_list, wide_kind};
-ghost use Rattle.upd_edit.specs.YankWarnings.{taking_warnings};
 
 use crate::earlier::with_younger_yanked;
 use crate::meeting::Seen;
@@ -21,7 +20,7 @@ use crate::yank_warnings::push_taking;
 use std::alloc::{AllocError, Global};
 use upd_core::ident::name_at;
 use upd_core::{Card, Entry, Library, Live, Name, Place, Serial};
-use upd_deck::{Item, Line, NameRange, read_run};
+use upd_deck::{Item, Line, read_run};
 use upd_text::limits::MAX_INTRODUCED;
 use upd_text::line::{is_comment, is_starred, word};
 use upd_text::{CardRef, Fault, FaultKind};
@@ -223,8 +222,8 @@ fn push_line(list: &mut Vec<Warning>, seen: &Seen, line: &Line) -> Result<(), Al
         Item::Restore { first, last } => push_restored(list, seen, number, first, last),
         Item::Insert(card) => push(list, number, conflict_kind(seen.insert_conflict(card))),
         Item::Before(card) => push(list, number, conflict_kind(seen.before_conflict(card))),
-        Item::Yank(names) => push_taken(list, seen, number, TakingWord::Yank, names),
-        Item::Purge(names) => push_taken(list, seen, number, TakingWord::Purge, names),
+        Item::Yank(names) => push_taking(list, seen, number, TakingWord::Yank, names),
+        Item::Purge(names) => push_taking(list, seen, number, TakingWord::Purge, names),
         _ => Ok(()),
     }
 }
@@ -234,19 +233,6 @@ fn conflict_kind(met: Option<Conflict>) -> Option<WarningKind>
     ensures { result ≡ conflict_kind met }
 {
     Some(WarningKind::Conflict(met?))
-}
-
-/// Appends the warnings of a yank or purge of names.
-fn push_taken(
-    list: &mut Vec<Warning>,
-    seen: &Seen,
-    number: usize,
-    word: TakingWord,
-    names: &[NameRange],
-) -> Result<(), AllocError>
-    ensures { OnOk result (list.new.items ≡ list.old.items ++ taking_warnings number word seen.now.library names.now) }
-{
-    push_taking(list, seen.library, seen.live, number, word, names)
 }
 
 /// Appends the warning of a text whose word may be meant for that of a directive.

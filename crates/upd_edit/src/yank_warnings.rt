@@ -9,6 +9,7 @@ ghost use Rattle.upd_edit.specs.YankWarnings.{deck_after, deck_kind, deck_warnin
 ghost use Rattle.upd_edit.specs.YankWarnings.{is_set, is_switched, serials_of, stays, switched_kind, taking_warnings, younger_entry};
 ghost use Rattle.upd_edit.specs.Found.{found};
 
+use crate::meeting::Seen;
 use crate::warning::{TakingWord, Warning, WarningKind, push};
 use crate::warnings::{name_of, ref_of};
 use std::alloc::{AllocError, Global};
@@ -47,19 +48,17 @@ pub(crate) struct Taking<'a> {
 /// Appends the warnings of a yank or purge of names.
 pub(crate) fn push_taking(
     list: &mut Vec<Warning>,
-    library: &Library,
-    live: &Live,
+    seen: &Seen,
     number: usize,
     word: TakingWord,
     names: &[NameRange],
 ) -> Result<(), AllocError>
-    requires { live.now ≡ live_of library.now }
-    ensures { OnOk result (list.new.items ≡ list.old.items ++ taking_warnings number word library.now names.now) }
+    ensures { OnOk result (list.new.items ≡ list.old.items ++ taking_warnings number word seen.now.library names.now) }
 {
-    let ranges = serials_named(*list.allocator(), library, names)?;
+    let ranges = serials_named(*list.allocator(), seen.library, names)?;
     let taking = Taking {
-        library,
-        live,
+        library: seen.library,
+        live: seen.live,
         number,
         word,
         ranges: &ranges,
