@@ -10,6 +10,7 @@ ghost use Rattle.upd_desk.specs.Journal.{library_after};
 ghost use Rattle.upd_desk.specs.Outcomes.{reply_on};
 ghost use Rattle.upd_edit.specs.EditCauses.{IsAnswerIn, IsEditLoss, IsPartsRefusal, base_in, edit_error, edited_in, failures_after_edit};
 ghost use Rattle.upd_edit.specs.Trying.{tried};
+ghost use Rattle.upd_edit.specs.declared.editing.EditError.TheVariants.{Failed};
 ghost use Rattle.upd_row_store.specs.Keeping.{CountsFailure, IsLost, Keeps};
 
 use crate::earlier::as_of;
@@ -31,6 +32,25 @@ pub enum EditError {
     Failed(Fault),
     /// The text is refused: all its problems, in order of line.
     Refused(Vec<Refusal>),
+}
+
+impl From<Fault> for EditError {
+    ghost from_gives = { λ fault error. error ≡ Failed fault };
+
+    fn from(fault: Fault) -> EditError {
+        EditError::Failed(fault)
+    }
+}
+
+impl From<CorrectError> for EditError {
+    ghost from_gives = { λ error edit. edit ≡ edit_error error };
+
+    fn from(error: CorrectError) -> EditError {
+        match error {
+            CorrectError::NoMemory => EditError::Failed(FaultKind::NoMemory.without_line()),
+            CorrectError::Refused(refusals) => EditError::Refused(refusals),
+        }
+    }
 }
 
 /// The reply that a run would get now, from the site `TRY` under the number 1. BadMode or RunLong, at 0, by the
@@ -75,19 +95,17 @@ pub fn correct_at<S: RowStore>(
         (λ journal. IsAnswerIn (edited_in text.now since (library_after journal)) set.now text.now
         (result_map_both (λ run. run.items) (λ error. error) result)) }
     ensures long { MAX_TEXT_BYTES < length text.now
-        → IfErr result (λ error. error ≡ EditError.Failed (fault_at RunLong 0)) }
+        → IfErr result (λ error. error ≡ Failed (fault_at RunLong 0)) }
     ensures same { Keeps S.Meaning desk.old.store desk.new.store }
     ensures failed { S.failures_of desk.new.store ≡ failures_after_edit result (S.failures_of desk.old.store) }
 {
     if text.len() > MAX_TEXT_BYTES {
         return Err(EditError::Failed(FaultKind::RunLong.without_line()));
     }
-    match desk.library(alloc) {
-        Ok(library) => match since {
-            None => corrected_now(alloc, &library, set, text),
-            Some(since) => corrected_since(alloc, &library, &since, set, text),
-        },
-        Err(fault) => Err(EditError::Failed(fault)),
+    let library = desk.library(alloc)?;
+    match since {
+        None => corrected_now(alloc, &library, set, text),
+        Some(since) => corrected_since(alloc, &library, &since, set, text),
     }
 }
 
@@ -102,10 +120,7 @@ fn corrected_now(
         (result_map_both (λ run. run.items) (λ error. error) result) }
     ensures kept { (failures : ℕ) → failures_after_edit result failures ≡ failures }
 {
-    match correct(alloc, library, set, text) {
-        Ok(run) => Ok(run),
-        Err(error) => Err(edit_error(error)),
-    }
+    Ok(correct(alloc, library, set, text)?)
 }
 
 /// The same of a library as it was.
@@ -121,22 +136,8 @@ fn corrected_since(
     ensures kept { (failures : ℕ) → failures_after_edit result failures ≡ failures }
 {
     let last = library.ident_of(since).unwrap_or(0);
-    match as_of(alloc, library, since) {
-        Ok(taken) => match correct_since(alloc, library, &taken, last, set, text) {
-            Ok(run) => Ok(run),
-            Err(error) => Err(edit_error(error)),
-        },
-        Err(fault) => Err(EditError::Failed(fault)),
-    }
-}
-
-fn edit_error(error: CorrectError) -> EditError
-    ensures { result ≡ edit_error error }
-{
-    match error {
-        CorrectError::NoMemory => EditError::Failed(FaultKind::NoMemory.without_line()),
-        CorrectError::Refused(refusals) => EditError::Refused(refusals),
-    }
+    let taken = as_of(alloc, library, since)?;
+    Ok(correct_since(alloc, library, &taken, last, set, text)?)
 }
 
 /// The runs that lead decks to their edited texts one after the other, as `upd_correct::correct_parts` makes them.
@@ -155,18 +156,13 @@ pub fn parts_at<S: RowStore>(
     ensures lost { IfErr result (IsEditLoss text.now) }
     ensures short { OnOk result (length text.now ≤ MAX_TEXT_BYTES) }
     ensures long { MAX_TEXT_BYTES < length text.now
-        → IfErr result (λ error. error ≡ EditError.Failed (fault_at RunLong 0)) }
+        → IfErr result (λ error. error ≡ Failed (fault_at RunLong 0)) }
     ensures same { Keeps S.Meaning desk.old.store desk.new.store }
     ensures failed { S.failures_of desk.new.store ≡ failures_after_edit result (S.failures_of desk.old.store) }
 {
     if text.len() > MAX_TEXT_BYTES {
         return Err(EditError::Failed(FaultKind::RunLong.without_line()));
     }
-    match desk.library(alloc) {
-        Ok(library) => match correct_parts(alloc, &library, set, text) {
-            Ok(runs) => Ok(runs),
-            Err(error) => Err(edit_error(error)),
-        },
-        Err(fault) => Err(EditError::Failed(fault)),
-    }
+    let library = desk.library(alloc)?;
+    Ok(correct_parts(alloc, &library, set, text)?)
 }
