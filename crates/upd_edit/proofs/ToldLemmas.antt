@@ -1,30 +1,23 @@
 -- What is made of the library that a desk returned is made of the library after each journal that its store holds.
-use Rattle.upd_edit.proofs.Common.{◌≡◌, Bool, true, false, length, List, ℕ, Some, None, Ok, Err, sym, subst, rules, LibraryView, check_arrival}
-use Rattle.upd_edit.proofs.Common.{ap, memory_is_lost, tried}
-use Rattle.std.proofs.Common.{inl, inr, refl, nat_lt, Option, Result, IsErrAnd, IsOkAnd}
+use Rattle.upd_edit.proofs.Common.{◌≡◌, List, ℕ, Some, None, Ok, Err, sym, subst, LibraryView}
+use Rattle.upd_edit.proofs.Common.{ap, memory_is_lost}
+use Rattle.std.proofs.Common.{inl, inr, refl, Result, IsErrAnd, IsOkAnd}
 use Rattle.std.specs.Prelude.{◌⊎◌, unwrap_or}
 use Rattle.std.specs.Result.{result_map_both}
 use Rattle.upd_text.specs.declared.fault.Fault.{Fault}
-use Rattle.upd_text.specs.declared.fault.FaultKind.TheVariants.{BadMode, RunLong}
-use Rattle.upd_text.specs.declared.limits.TheConstants.{MAX_RUN_BYTES}
-use Rattle.upd_text.specs.Outcome.{◌>>=◌, at_line, need, refuse_if}
+use Rattle.upd_text.specs.Outcome.{◌>>=◌}
 use Rattle.upd_core.specs.Library.{ident_of}
-use Rattle.upd_compile.specs.Modes.{mode_named}
-use Rattle.upd_compile.specs.declared.mode.Mode.{Mode}
 use Rattle.upd_row_store.specs.declared.meaning.Meaning.{Ghosts}
 use Rattle.upd_row_store.specs.Keeping.{IsLost}
-use Rattle.upd_desk.specs.Holding.{EachHeld, IsOwed, Tells, is_lost}
+use Rattle.upd_desk.specs.Holding.{IsOwed, Tells}
 use Rattle.upd_desk.specs.Journal.{library_after}
 use Rattle.upd_desk.specs.Made.{IsMade}
 use Rattle.upd_desk.proofs.MadeLemmas.{library_made}
 use Rattle.upd_correct.specs.Causes.{AreRefusals, IsCause, IsCauseSince}
-use Rattle.upd_correct.specs.Parts.{IsPartsCause}
 use Rattle.upd_correct.specs.declared.refusal.CorrectError.{CorrectError}
 use Rattle.upd_correct.specs.declared.refusal.CorrectError.TheVariants.{NoMemory, Refused}
-use Rattle.upd_edit.specs.EditCauses.{EditBase, IsAnswerIn, IsEditLoss, IsPartsRefusal, base_in, edit_error, edited_in, failures_after_edit}
+use Rattle.upd_edit.specs.EditCauses.{EditBase, IsAnswerIn, IsEditLoss, base_in, edit_error}
 use Rattle.upd_edit.specs.Earlier.{as_of}
-use Rattle.upd_edit.specs.declared.editing.EditError.{EditError}
-use Rattle.upd_edit.specs.declared.editing.TheConstants.{MAX_TEXT_BYTES}
 
 module _ {S : Type 0} (meaning : Ghosts S) where
   -- an answer that is right of the library that was returned
@@ -34,14 +27,6 @@ module _ {S : Type 0} (meaning : Ghosts S) where
       let is : library_after journal ≡ found = cc (tells honest journal held) in
       let IsRight : LibraryView → Type 0 = λ l. IsOwed (defined l) result in
       subst IsRight (sym is) (meets (subst IsMade is (library_made journal)))
-
-  -- the same of any claim
-  pub held_of : (claim : LibraryView → Type 0) (found : LibraryView) (old new : S)
-      → Tells meaning (λ l. Ok l) (Ok found) old new → (IsMade found → claim found)
-      → EachHeld meaning old new (λ journal. claim (library_after journal))
-  held_of claim found old new tells meets honest journal held =
-      let is : library_after journal ≡ found = cc (tells honest journal held) in
-      subst claim (sym is) (meets (subst IsMade is (library_made journal)))
 
   -- no library was returned
   pub none_told : {A : Type 0} (defined : LibraryView → Result A Fault) (fault : Fault) (result : Result A Fault) (old new : S)
@@ -58,27 +43,6 @@ pub shown_error : {X A : Type 0} (view : X → A) (result : Result X Fault) (fau
     → IsErrAnd (result_map_both view (λ f. f) result) (λ e. e ≡ fault)
 shown_error view (Ok x) fault is = absurd is
 shown_error view (Err e) fault is = is
-
--- what the admission checks refuse of a run that is only tried is no failure of a store
-pub tried_keeps : (mode run : List ℕ) (f : Fault) → check_arrival (tried mode run) ≡ Err f → is_lost f.kind ≡ false
-tried_keeps mode run f is = by_mode (mode_named mode) is
-  where
-    after_mode : Mode → Bool → Result Mode Fault
-    after_mode m long = at_line 0 (refuse_if long RunLong) >>= λ _. Ok m
-
-    by_length : (m : Mode) (long : Bool) → after_mode m long ≡ Err f → is_lost f.kind ≡ false
-    by_length m true is = grind rules
-    by_length m false is = grind rules
-
-    by_mode : (m : Option Mode) → (at_line 0 (need BadMode m) >>= λ m. after_mode m (nat_lt MAX_RUN_BYTES (length run))) ≡ Err f
-        → is_lost f.kind ≡ false
-    by_mode None is = grind rules
-    by_mode (Some m) is = by_length m (nat_lt MAX_RUN_BYTES (length run)) is
-
--- a text that isn't too long is edited in the libraries of its time and of now
-pub fitting : (text : List ℕ) (since : Option (List ℕ)) (l : LibraryView) → nat_lt MAX_TEXT_BYTES (length text) ≡ false
-    → edited_in text since l ≡ base_in since l
-fitting text since l is = ap (λ long. at_line 0 (refuse_if long RunLong) >>= (λ _. base_in since l)) is
 
 -- what is so of a library as of an ident, of its serial and of the present library
 pub base_found : (since : List ℕ) (l taken : LibraryView) (last : ℕ) → as_of since l ≡ Ok taken → last ≡ unwrap_or (ident_of since l) 0
@@ -98,21 +62,9 @@ base_failed since l fault (inr failed) =
 
 -- ---- why there is no run, as the desk tells it
 
-pub edit_kept : (A : Type 0) (error : CorrectError) (e : EditError) (failures : ℕ) → e ≡ edit_error error
-    → failures_after_edit {A = A} (Err e) failures ≡ failures
-edit_kept A error e failures is = subst (λ (e : EditError). failures_after_edit {A = A} (Err e) failures ≡ failures) (sym is) (by error)
-  where
-    by : (error : CorrectError) → failures_after_edit {A = A} (Err (edit_error error)) failures ≡ failures
-    by NoMemory = refl
-    by (Refused refusals) = refl
-
 pub edit_lost : (text : List ℕ) (error : CorrectError) → IsEditLoss text (edit_error error)
 edit_lost text NoMemory = λ short. memory_is_lost _ refl
 edit_lost text (Refused refusals) = tt
-
-pub parts_refused : (l : LibraryView) (set text : List ℕ) (error : CorrectError) → IsPartsCause l set text error → IsPartsRefusal l set text (edit_error error)
-parts_refused l set text NoMemory cause = tt
-parts_refused l set text (Refused refusals) cause = cause
 
 -- of the library as it is
 pub none_now : (l : LibraryView) (set text : List ℕ) (error : CorrectError) → IsCause l set text error

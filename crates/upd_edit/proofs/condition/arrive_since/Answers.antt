@@ -1,7 +1,6 @@
-use Rattle.std.proofs.Common.{◌≡◌, arith, length, []}
+use Rattle.std.proofs.Common.{arith}
 use Rattle.std.proofs.lemmas.List.{nil_from_length}
 use Rattle.upd_core.proofs.Common.{nat_tests}
-use Rattle.upd_edit.proofs.Common.{ap}
 use Rattle.upd_desk.specs.Arrivals.{arrival_view}
 use Rattle.upd_edit.proofs.ConditionLemmas.{arrived, refused, unseen}
 use Rattle.upd_edit.proofs.condition.arrive_since.Goals as goal
@@ -22,13 +21,6 @@ pub returns-then-is_empty-clause-arrives : goal.returns-then-is_empty-clause-arr
 returns-then-is_empty-clause-arrives g c =
     refused g.S.Meaning c.args.since.now (arrival_view c.args.site.now c.args.number c.args.mode.now c.args.run.now) c.in-Err-arrive.fault
     c.args.desk.now.store c.conflicts_at.new.desk.store c.arrive.new.self.store c.in-Ok.ensures.same c.in-Err-arrive.ensures.arrives
-
-pub returns-in-Ok-clause-arrives : goal.returns-in-Ok-clause-arrives
-returns-in-Ok-clause-arrives g c =
-    let some : ¬ (c.in-Ok.met.items ≡ []) = λ none.
-    let is : length c.in-Ok.met.items ≡ 0 = ap length none in
-    grind (arith, nat_tests, c.in-Ok.met.ok, c.is_empty.ensures, c.if-is_empty.false, is) in
-    (c.in-Ok.ensures.same, some, c.in-Ok.ensures.list)
 
 pub returns-clause-arrives : goal.returns-clause-arrives
 returns-clause-arrives g c =

@@ -1,6 +1,6 @@
-use Rattle.upd_edit.proofs.Common.{Ok, Err, ◌∙◌, uncounted, check_arrival, unstored, fails_owed, store_fails, tried}
+use Rattle.upd_edit.proofs.Common.{Ok, Err, check_arrival, fails_owed, tried}
 use Rattle.upd_desk.specs.Outcomes.{reply_on}
-use Rattle.upd_edit.proofs.ToldLemmas.{none_told, told_of, tried_keeps}
+use Rattle.upd_edit.proofs.ToldLemmas.{told_of}
 use Rattle.upd_edit.proofs.editing.try_at.Goals as goal
 
 pub returns-in-Ok-clause-reply : goal.returns-in-Ok-clause-reply
@@ -14,16 +14,5 @@ returns-clause-reply g c =
     c.args.desk.now.store c.library.new.self.store c.in_ok-library.ensures.library
     (λ made. fails_owed c.in-Err.fault (reply_on (tried c.args.mode.now c.args.run.now) c.in_ok-library.library) (c.in-Err.ensures.reply made))
 
-pub returns-in_err-library-clause-reply : goal.returns-in_err-library-clause-reply
-returns-in_err-library-clause-reply g c =
-    none_told g.S.Meaning (reply_on (tried c.args.mode.now c.args.run.now)) c.in_err-library.field-0.0 _
-    c.args.desk.now.store c.library.new.self.store c.from_residual.ensures.1 c.in_err-library.ensures.library
-
 pub returns-clause-refused : goal.returns-clause-refused
 returns-clause-refused g c = fails_owed c.in-Err.fault (check_arrival (tried c.args.mode.now c.args.run.now)) c.in-Err.ensures.refused
-
-pub returns-clause-failed : goal.returns-clause-failed
-returns-clause-failed g c =
-    c.in_ok-library.ensures.leaves.failed ∙ uncounted c.in-Err.fault.kind _
-    (λ is. unstored c.in-Err.fault (tried_keeps c.args.mode.now c.args.run.now c.in-Err.fault
-    (store_fails c.in-Err.fault (check_arrival (tried c.args.mode.now c.args.run.now)) is c.in-Err.ensures.refused)) is)
