@@ -17,12 +17,14 @@ use Rattle.sqlite.specs.Listing.{understood}
 use Rattle.sqlite.specs.State.{Executes}
 use Rattle.sqlite.proofs.Callers.{command_of, runs_as}
 use Rattle.upd_sqlite.specs.Keyed.{plain_query}
-use Rattle.upd_sqlite.proofs.Shapes.{creates, cast_int}
+use Rattle.upd_sqlite.specs.Stored.{with_rows}
+use Rattle.upd_sqlite.proofs.Shapes.{creates, cast_int, updates}
 use Rattle.upd_sqlite.proofs.Tests.{eq_text, one_test}
 use Rattle.upd_sql.specs.Encoded.{version_row}
 use Rattle.upd_sql.specs.Making.{MakesNext}
 use Rattle.upd_sql.specs.Schema.{meta_columns}
-use Rattle.upd_sql.proofs.Typed.{changes}
+use Rattle.upd_sql.proofs.Typed.{own}
+use Rattle.upd_sql.proofs.Bare.{bare_tests, bare_values}
 use Rattle.upd_migrate.specs.declared.completing.TheConstants.{SET_VERSION}
 
 -- the next table is made, and the others have their rows
@@ -64,6 +66,9 @@ version_becomes version =
 pub version_set : (version : Version) (it : Rows) (old new : State) (count : ℕ) → Executes set_version [] old new (Ok count) → HasTables version it old.now
     → HoldsTables it new.now
 version_set version it old new count ran h =
-    changes 0 0 (codes "meta") meta_columns (1 ∷ []) refl refl (λ _ _. refl) (λ v. v) ((version_row (number_of version) ∷ []) ∷ drop 1 (stored it))
-    (version_row (number_of version) ∷ []) refl set_version [] set_version_plain old new count ran h set_tests set_news set_version_is refl refl
-    (λ _. version_row 3) (version_becomes version, tt)
+    let all = (version_row (number_of version) ∷ []) ∷ drop 1 (stored it) in
+    let w = runs_as set_version [] old new library_schema h.schema_is _ set_version_is set_version_plain count ran in
+    subst (λ rows. HoldsAllRows library_schema (with_rows 0 rows all) new.now) (ap (λ row. row ∷ []) (version_becomes version))
+    (updates library_schema 0 0 (codes "meta") meta_columns (1 ∷ []) refl refl (λ _ _. refl) old new all _ [] count h set_tests set_news
+    (λ row. list_all (holds ([] ∷ (Null ∷ row) ∷ [])) set_tests) (λ row. eval_all set_news ([] ∷ (Null ∷ row) ∷ [])) (own old.now.trees 0)
+    (λ row. bare_tests [] row set_tests refl) (λ row. bare_values [] row set_news refl) w)
