@@ -5,7 +5,7 @@ pub use Rattle.std.proofs.Common.{subst, suc, sum_by, sym, take, true, zero}
 pub use Rattle.std.proofs.lemmas.Bool.{ne_eqb}
 pub use Rattle.std.proofs.lemmas.Bool.Decides.{Decides-eqb, nat_tests}
 pub use Rattle.std.proofs.lemmas.Fn.{filter_same}
-pub use Rattle.std.proofs.lemmas.Grind.{common_steps, elements}
+pub use Rattle.std.proofs.lemmas.Grind.{common_steps}
 pub use Rattle.std.proofs.lemmas.List.{drop_more, length-append, length-drop, length-map, length-take-le}
 pub use Rattle.std.proofs.lemmas.List.Sums.{sum_by-take-drop}
 pub use Rattle.std.proofs.lemmas.Option.{same_Some}

@@ -1,4 +1,4 @@
-use Rattle.upd_core.proofs.Common.{common_steps, ◌≡◌, ◌+◌, ◌-◌, ◌∙◌, map, take, drop, arith, ap, sym, append_assoc, entered}
+use Rattle.upd_core.proofs.Common.{◌≡◌, ◌+◌, ◌-◌, ◌∙◌, map, take, drop, arith, ap, sym, append_assoc, entered}
 use Rattle.std.proofs.lemmas.List.{drop-drop}
 use Rattle.std.proofs.lemmas.Slice.{between_is}
 use Rattle.upd_core.proofs.edits.enter_some.Goals as goal
@@ -11,18 +11,3 @@ returns-in_ok-enter_each-clause-ok c =
     let entries : c.enter_each.new.cards ≡ map (entered c.args.entry) (drop c.args.from (take (c.args.to + 1) xs)) =
     c.in_ok-enter_each.ensures.ok ∙ ap (map (entered c.args.entry)) (between_is xs _ _) in
     rw (entries, after) (sym (append_assoc (take c.args.from xs) _ _))
-
-pub returns-in_ok-enter_each-clause-count : goal.returns-in_ok-enter_each-clause-count
-returns-in_ok-enter_each-clause-count c = grind (arith, common_steps)
-
-pub returns-in_ok-enter_each-2-clause-count : goal.returns-in_ok-enter_each-2-clause-count
-returns-in_ok-enter_each-2-clause-count c = grind (arith, common_steps)
-
-pub returns-in_ok-enter_each-2-clause-ok : goal.returns-in_ok-enter_each-2-clause-ok
-returns-in_ok-enter_each-2-clause-ok c = grind (arith, common_steps)
-
-pub returns-else-from-cards-clause-count : goal.returns-else-from-cards-clause-count
-returns-else-from-cards-clause-count c = grind (arith, common_steps)
-
-pub returns-else-from-cards-clause-ok : goal.returns-else-from-cards-clause-ok
-returns-else-from-cards-clause-ok c = grind (arith, common_steps)

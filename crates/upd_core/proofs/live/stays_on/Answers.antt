@@ -7,9 +7,3 @@ returns-then-not-is_taken c =
     let last = stays_on-take (is_taken c.args.targets.now c.args.deck) c.args.history.now c.loop-i.i (record { ident = 0; active = false }) (omega arith)
     (omega arith) in
     grind (arith, common_steps)
-
-pub loop-i-preserved : goal.loop-i-preserved
-loop-i-preserved c =
-    let last = stays_on-take (is_taken c.args.targets.now c.args.deck) c.args.history.now c.loop-i.i (record { ident = 0; active = false }) (omega arith)
-    (omega arith) in
-    grind (arith, common_steps)
