@@ -1,14 +1,13 @@
 -- Moves in many decks: what is right of a deck's cards is right of all, and stays so while the cards of other decks move.
 use Rattle.std.proofs.Common.{◌≡◌, ℕ, ◌+◌, ◌<◌, ◌≤◌, ◌==◌, Bool, true, false, ◌&&◌, cond, List, [], ◌∷◌, ◌++◌, map, filter, refl, sym, ap, subst, ◌∙◌, arith}
-use Rattle.std.proofs.Common.{nat_le, append_assoc}
+use Rattle.std.proofs.Common.{nat_le}
 use Rattle.std.proofs.lemmas.Bool.Decides.{Decides-eqb}
-use Rattle.std.proofs.lemmas.List.{map-append}
-use Rattle.std.specs.List.{AllByRecursion, flat_map}
+use Rattle.std.specs.List.{AllByRecursion}
 use Rattle.upd_records.specs.Rows.{CardRow}
 use Rattle.upd_shifts.specs.declared.moves.Move.{Move}
 use Rattle.upd_shifts.specs.declared.plans.DeckPlan.{DeckPlan}
 use Rattle.upd_shifts.specs.declared.shift.Shift.{Shift}
-use Rattle.upd_shifts.specs.Plans.{DecksRise, IsPlan, planned}
+use Rattle.upd_shifts.specs.Plans.{DecksRise, IsPlan}
 use Rattle.upd_shifts.specs.Shifts.{IsRight, is_behind, moved_all}
 use Rattle.upd_shifts.proofs.MoveLemmas.{deck_stays, other_stays}
 use Rattle.upd_shifts.proofs.ShiftLemmas.{moves_past, not_behind}
@@ -66,11 +65,3 @@ plans_still k moves rows (p ∷ ps) least low rise h =
 pub all_push : {A : Type 0} (P : A → Type 0) (xs : List A) (x : A) → AllByRecursion P xs → P x → AllByRecursion P (xs ++ x ∷ [])
 all_push P [] x h is = (is, tt)
 all_push P (y ∷ xs) x h is = (h.0, all_push P xs x h.1 is)
-
-pub planned_push : (ps : List DeckPlan) (p : DeckPlan) → flat_map planned (ps ++ p ∷ []) ≡ flat_map planned ps ++ planned p
-planned_push [] p = append_none (planned p)
-  where
-    append_none : {A : Type 0} (xs : List A) → xs ++ [] ≡ xs
-    append_none [] = refl
-    append_none (x ∷ xs) = ap (λ t. x ∷ t) (append_none xs)
-planned_push (q ∷ ps) p = ap (λ t. planned q ++ t) (planned_push ps p) ∙ sym (append_assoc (planned q) (flat_map planned ps) (planned p))

@@ -1,4 +1,4 @@
-use Rattle.std.proofs.Common.{◌≡◌, ◌∙◌, List, subst, IfSome}
+use Rattle.std.proofs.Common.{◌∙◌, List, subst}
 use Rattle.std.specs.List.{AllByRecursion}
 use Rattle.upd_records.specs.Rows.{CardRow}
 use Rattle.upd_shifts.specs.Shifts.{IsRight}
