@@ -8,8 +8,9 @@ ghost use Rattle.upd_records.specs.Rows.{IsSame, Rows, Shows, ShowsStates};
 ghost use Rattle.upd_row_store.specs.Activating.{AreStatesByCard, actives_in, behind_yanks, is_active_in, with_active};
 ghost use Rattle.upd_row_store.specs.Assembling.{AreAgesOf};
 
-use crate::assemble::{age_of, by_age, by_place, held_ages};
+use crate::assemble::{age_of, held_ages};
 use crate::by_card::rows_of;
+use crate::sorted_rows::{by_age, by_place};
 use std::alloc::{AllocError, Global};
 use std::collections::BTreeMap;
 use std::mem;

@@ -1,5 +1,5 @@
 //! A library out of its rows, which come in any order.
-ghost use Rattle.std.specs.Prelude.{◌≡◌, ℕ, ◌==◌, Bool, false, List, [], ◌∷◌, ◌++◌, Some, IfOk, OnOk, IsPermutation, length};
+ghost use Rattle.std.specs.Prelude.{◌≡◌, ℕ, ◌==◌, Bool, false, List, [], ◌∷◌, ◌++◌, Some, IfOk, OnOk, length};
 ghost use Rattle.std.specs.BTreeSet as sorted;
 ghost use Rattle.std.specs.Cmp.Lexicographic.{slice_cmp};
 ghost use Rattle.std.specs.List.{filter, find, list_any};
@@ -13,7 +13,7 @@ ghost use Rattle.upd_core.specs.declared.ident.Ident.{Ident};
 ghost use Rattle.upd_records.specs.Rows.{CardRow, EntryRow, IsSame, Rows, Shows, TargetRow, same_ref};
 ghost use Rattle.upd_row_store.specs.Asked.{ShowsCard, ages_asked};
 ghost use Rattle.upd_row_store.specs.declared.asked.DeckOf.TheVariants.{Named};
-ghost use Rattle.upd_row_store.specs.Assembling.{AreAgesOf, AreByAge, AreEntriesByCard, AreByPlace, AreRowsOf};
+ghost use Rattle.upd_row_store.specs.Assembling.{AreAgesOf, AreEntriesByCard, AreRowsOf};
 ghost use Rattle.upd_row_store.specs.Assembling.{AreTargetsByCard, age_named, card_of_row, decks_from, decks_in, entries_of};
 ghost use Rattle.upd_row_store.specs.Assembling.{library_of, targets_of};
 ghost use Rattle.upd_core.specs.Parts.{part_of};
@@ -22,48 +22,13 @@ ghost use Rattle.upd_row_store.specs.PartRows.{AreOfDistinctCards, part_rows};
 use crate::asked::{DeckOf, ages_of_decks, decks_by_age};
 use crate::by_card::rows_of;
 use crate::parts::{name_set, rows_of_part};
+use crate::sorted_rows::{by_age, by_place, entries_by_card, targets_by_card};
 use std::alloc::{AllocError, Global};
 use std::collections::{BTreeMap, BTreeSet};
 use std::mem;
 use upd_core::{Card, CardRef, Deck, Entry, Ident, Library, Rest, Serial, Target};
 use upd_records::{CardRow, EntryRow, LibraryRows, TargetRow};
 use upd_text::Name;
-
-pub fn by_age(idents: Vec<Ident>) -> Vec<Ident>
-    ensures permutation { IsPermutation idents.items result.items }
-    ensures sorted { AreByAge result.items }
-{
-    let mut idents = idents;
-    idents.sort_unstable_by_key(|ident| ident.age);
-    idents
-}
-
-pub(crate) fn by_place(rows: Vec<CardRow>) -> Vec<CardRow>
-    ensures permutation { IsPermutation rows.items result.items }
-    ensures sorted { AreByPlace result.items }
-{
-    let mut rows = rows;
-    rows.sort_unstable_by_key(|row| (row.deck, row.pos));
-    rows
-}
-
-fn entries_by_card(rows: Vec<EntryRow>) -> Vec<EntryRow>
-    ensures permutation { IsPermutation rows.items result.items }
-    ensures sorted { AreEntriesByCard result.items }
-{
-    let mut rows = rows;
-    rows.sort_unstable_by_key(|row| (row.card, row.ord));
-    rows
-}
-
-fn targets_by_card(rows: Vec<TargetRow>) -> Vec<TargetRow>
-    ensures permutation { IsPermutation rows.items result.items }
-    ensures sorted { AreTargetsByCard result.items }
-{
-    let mut rows = rows;
-    rows.sort_unstable_by_key(|row| (row.card, row.ord));
-    rows
-}
 
 /// The places where the rows of the next card are looked for first.
 #[derive(Drop)]

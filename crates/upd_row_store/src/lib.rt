@@ -7,6 +7,7 @@ pub mod assemble;
 mod by_card;
 pub mod meaning;
 mod parts;
+mod sorted_rows;
 pub mod store;
 
 pub use active::assembled_active;
@@ -15,8 +16,9 @@ pub use asked::{
     reads_with, states_among, states_by_key,
 };
 pub use assemble::{
-    age_of, assembled, assembled_card, assembled_deck, assembled_part, assembled_with_rest, by_age,
+    age_of, assembled, assembled_card, assembled_deck, assembled_part, assembled_with_rest,
     deck_named, held_ages,
 };
 pub use meaning::Meaning;
+pub use sorted_rows::by_age;
 pub use store::{RowStore, StoredRuns};
