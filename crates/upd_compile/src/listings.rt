@@ -1,5 +1,5 @@
 //! The four listings, and the lines that they are made of. Each line ends with LF.
-ghost use Rattle.std.specs.Prelude.{◌≡◌, ◌∷◌, ◌++◌, [], ℕ, Err, List, None, if◌then◌else◌, codes, drop, OnOk, IfOk, not};
+ghost use Rattle.std.specs.Prelude.{◌≡◌, ◌∷◌, ◌++◌, [], ℕ, Err, List, None, if◌then◌else◌, codes, OnOk, IfOk, not};
 ghost use Rattle.std.specs.List.{flat_map, list_any};
 ghost use Rattle.std.specs.Result.{IsOkUnless};
 ghost use Rattle.upd_core.specs.declared.ident.Ident.{Ident};
@@ -10,11 +10,11 @@ ghost use Rattle.upd_core.specs.Library.{place_of};
 ghost use Rattle.upd_core.specs.Sound.{AreAgedFrom, is_held};
 ghost use Rattle.upd_core.specs.Status.{is_active, live_targets};
 ghost use Rattle.upd_compile.specs.Listings.{deck_heading, deck_line, deck_listing, deck_name, listed_deck};
-ghost use Rattle.upd_compile.specs.Listings.{card_lines, card_listing, card_name, entry_line, line_of, word_if};
+ghost use Rattle.upd_compile.specs.Listings.{card_lines, card_listing, card_name, entry_line, line_of};
 ghost use Rattle.upd_compile.specs.Listings.{ident_line, ident_listing, is_purged, purged_suffix, target_line, yank_lines, yank_listing};
 
 use crate::idents::{ident_at, name_of};
-use crate::text_parts::push_parts;
+use crate::text_parts::{push_parts, suffix_if, word_of};
 use itoa::Buffer;
 use std::alloc::{AllocError, Global};
 use upd_core::{Card, Entry, Ident, Kind, Library, Live, Serial, Target};
@@ -383,19 +383,4 @@ pub fn push_card_name(text: &mut Vec<u8>, idents: &[Ident], card: &Card) -> Resu
 {
     push_parts(text, &[name_of(idents, card.ident), b"."])?;
     text.extend_from_slice(Buffer::new().format(card.number).as_bytes())
-}
-
-/// `word` where the test holds, else `other`.
-fn word_of<'a>(test: bool, word: &'a [u8], other: &'a [u8]) -> &'a [u8]
-    ensures { result.now ≡ (if test then word.now else other.now) }
-{
-    if test { word } else { other }
-}
-
-/// The suffix where the test holds, else nothing. It begins with a blank.
-fn suffix_if<'a>(test: bool, suffix: &'a [u8]) -> &'a [u8]
-    requires { suffix.now ≡ 32 ∷ drop 1 suffix.now }
-    ensures { result.now ≡ flat_map (λ x. 32 ∷ x) (word_if test (drop 1 suffix.now)) }
-{
-    if test { suffix } else { b"" }
 }
