@@ -1,5 +1,5 @@
 -- What one open finds, for the store over the trees and for the one through SQL.
-use Rattle.std.specs.Prelude.{◌≡◌, ◌≤◌, ◌⊎◌, ℕ, List, IsSome, IsTrue}
+use Rattle.std.specs.Prelude.{◌≡◌, ◌≤◌, ◌⊎◌, ℕ, Bool, List, IsSome, IsTrue, false, true}
 use Rattle.sqlite_catalog.specs.Listing.{Lists}
 use Rattle.sqlite_trees.specs.Objects.{catalog_tree}
 use Rattle.sqlite_trees.specs.View.{View, doubt, IsClean}
@@ -31,10 +31,14 @@ abbrev pub IsBelow : Purpose → Type 0
 IsBelow Writing = ⊥
 IsBelow _ = Unit {0}
 
--- how many pages of a file are kept in memory: fewer for one run, which keeps the rows of the whole library as well
-abbrev pub pages_kept : Purpose → ℕ
-pages_kept (Run site number) = 1000
-pages_kept _ = 2000
+-- how many pages of a file are kept in memory: fewer for one run, which keeps the rows of the whole library as well, and
+-- fewest for what works once on a small file
+abbrev pub pages_kept : Purpose → Bool → ℕ
+pages_kept (Run site number) true = 320
+pages_kept (Run site number) false = 1000
+pages_kept Reading true = 320
+pages_kept Reading false = 2000
+pages_kept Writing is_small = 2000
 
 -- A store that was just opened. If its trees list the library's schema, they are the database that the files held.
 pub record MayFind (image : Image) (v : View) : Type 0 where

@@ -317,6 +317,14 @@ fn connect_or_make<S: Start>(
     }
 }
 
+/// Whether a file has at most a mebibyte. One whose size isn't known is not small.
+pub(crate) fn is_small(rt: &HostRuntime, path: &str) -> bool {
+    match fs::metadata(rt, path) {
+        Ok(found) => found.len() <= 1_048_576,
+        Err(_) => false,
+    }
+}
+
 /// Whether a file begins as each file of SQLite does.
 pub fn begins_as_database(rt: &HostRuntime, path: &str) -> io::Result<bool> {
     if !fs::metadata(rt, path)?.is_file() {

@@ -16,7 +16,7 @@ ghost use Rattle.upd_records.specs.Rows.{Rows};
 ghost use Rattle.upd_store.specs.OneOpen.{IsBelow, IsKept, IsServed, IsTaken, MayFind, pages_kept};
 ghost use Rattle.upd_store.specs.TreeOpening.{FindsTrees};
 
-use crate::file::{adopted, begins_as_database, file_fault, refuse_exposed};
+use crate::file::{adopted, begins_as_database, file_fault, is_small, refuse_exposed};
 use crate::sql_store::SqlStore;
 use crate::store_faults::{fault_of, no_memory, store_at};
 use crate::tree_library::serves;
@@ -56,17 +56,22 @@ fn is_below(purpose: Purpose<'_>) -> bool
     !matches!(purpose, Purpose::Writing)
 }
 
-/// For one run half the pages that are usual are kept in memory: 4 MB, which lie beside the rows of a whole library.
-fn options(seed: u64, purpose: Purpose<'_>) -> Options
-    ensures { (result.cache_pages ≡ pages_kept purpose.entry) × (result.seed ≡ seed) }
+/// For one run half the pages that are usual are kept in memory: 4 MB, which lie beside the rows of a whole library. Of a
+/// small file few are kept, but more than it has: an open writes them all. Who writes again and again keeps the usual ones.
+fn options(seed: u64, purpose: Purpose<'_>, is_small: bool) -> Options
+    ensures { (result.cache_pages ≡ pages_kept purpose.entry is_small) × (result.seed ≡ seed) }
 {
     let usual = Options::new(seed);
     match purpose {
         Purpose::Run { .. } => Options {
-            cache_pages: 1_000,
+            cache_pages: if is_small { 320 } else { 1_000 },
             ..usual
         },
-        Purpose::Reading | Purpose::Writing => usual,
+        Purpose::Reading => Options {
+            cache_pages: if is_small { 320 } else { 2_000 },
+            ..usual
+        },
+        Purpose::Writing => usual,
     }
 }
 
@@ -206,7 +211,7 @@ fn why_not<D: Disk + Drop>(
 pub fn opened<D: Disk + Drop>(
     alloc: Global,
     files: Files<D>,
-    seed: u64,
+    options: Options,
     purpose: Purpose<'_>,
 ) -> Result<Opened<FileStore<D>>, Fault>
     requires log { IsTrue (D.Disk.is_usable files.log) }
@@ -222,7 +227,6 @@ pub fn opened<D: Disk + Drop>(
         → (it : Rows) → ShowsIn (view s.store).committed it → IsServed purpose.entry it)) }
     ensures unopened { IfErr result IsUnopened }
 {
-    let options = options(seed, purpose);
     if !is_below(purpose) {
         return match through_sql(alloc, files, options) {
             Ok(library) => Ok(Err(library)),
@@ -276,5 +280,6 @@ pub fn open_once<St: Start>(
     let Ok(state) = RandomState::new(rt) else {
         return Err(store_at(0));
     };
-    opened(rt.alloc(), files, state.hash_one(&0u8), purpose)
+    let options = options(state.hash_one(&0u8), purpose, is_small(rt, path));
+    opened(rt.alloc(), files, options, purpose)
 }
