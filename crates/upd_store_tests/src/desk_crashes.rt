@@ -1,4 +1,4 @@
-//! A crash at each call of the disk: what is opened again holds the answered arrivals, with or without the one in hand.
+//! Crashes at calls of the disk: what is opened again holds the answered arrivals, with or without the one in hand.
 use crate::fused_files::{Bytes, Cut, Fused, Work, survives_crashes, work_in};
 use crate::table_rows::table_rows;
 use sqlite::Connection;
@@ -209,30 +209,20 @@ impl Cut for Asking<'_> {
     }
 }
 
-const DECK_A: &str = "*DECK A\nONE\nTWO\nTHREE\n";
+const DECK: Ask<'static> = Ask::Lyon(7, "full", "*DECK A\nONE\nTWO\nTHREE\n");
 
-/// Three runs, each of which is one commit, then a settlement of the first two.
-const THREE_RUNS: &[Ask<'static>] = &[
-    Ask::Lyon(1, "full", DECK_A),
-    Ask::Lyon(2, "full", "*IDENT X\n*DELETE A.2\nNEW\n"),
-    Ask::Lyon(3, "full", "*IDENT Y\n*YANK X\n"),
-    Ask::Settle("LYON", 2),
+const SETS: &str = "*IDENT X\n*DELETE A.2\nNEW\n*IDENT Y\n*YANK X\n";
+
+/// A run, one of a lower number, a repeat of the first, and a settlement of the one that came second.
+const LIST: &[Ask<'static>] = &[
+    DECK,
+    Ask::Lyon(6, "full", SETS),
+    DECK,
+    Ask::Settle("LYON", 6),
 ];
 
 #[test]
-fn three_commits_and_a_settlement_survive_crashes(rt: HostRuntime) -> Result<(), Fail> {
-    let asking = Asking { list: THREE_RUNS };
-    survives_crashes(rt.alloc(), &asking, &Bytes::none(rt.alloc()), 30)
-}
-
-const DECK: Ask<'static> = Ask::Lyon(7, "full", DECK_A);
-
-const DELETED: Ask<'static> = Ask::Lyon(6, "full", "*IDENT X\n*DELETE A.3\n");
-
-/// Two runs and their repeats, then a settlement of the one that came second.
-#[test]
-fn repeats_survive_crashes(rt: HostRuntime) -> Result<(), Fail> {
-    let list = [DECK, DELETED, DECK, DELETED, Ask::Settle("LYON", 6)];
-    let asking = Asking { list: &list };
+fn runs_a_repeat_and_a_settlement_survive_crashes(rt: HostRuntime) -> Result<(), Fail> {
+    let asking = Asking { list: LIST };
     survives_crashes(rt.alloc(), &asking, &Bytes::none(rt.alloc()), 30)
 }

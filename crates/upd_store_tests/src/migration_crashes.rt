@@ -1,4 +1,4 @@
-//! A crash at each call of the disk: the file opened again is the old one or the migrated one, and can be migrated.
+//! Crashes at calls of the disk: the file opened again is the old one or the migrated one, and can be migrated.
 use crate::fused_files::{Bytes, Cut, Fused, Work, survives_crashes, work_in};
 use crate::older_files::Older;
 use sqlite::Connection;
@@ -86,7 +86,7 @@ impl Cut for Older {
     }
 }
 
-/// A crash at each call of the log, then at each of the database file; there are more than ten.
+/// Crashes at calls of the log, then of the database file; there are more than ten calls.
 fn survives(alloc: Global, file: Older) -> Result<(), Fail> {
     let files = Bytes::none(alloc).whole_files(alloc)?;
     let (is_made, files) = Migration(file, Task::Make).done_in(alloc, files)?;
