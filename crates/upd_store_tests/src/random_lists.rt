@@ -126,8 +126,9 @@ pub fn random_step<S: RowStore>(
 ) -> Result<(), Fail> {
     let number = dice.below(24).saturating_add(1);
     let text = random_text(session.alloc, dice, list, number)?;
-    let long = " ".repeat(session.alloc, 65_537)?;
-    let ask = match dice.below(24) {
+    let kind = dice.below(24);
+    let long = " ".repeat(session.alloc, if kind == 2 { 65_537 } else { 0 })?;
+    let ask = match kind {
         0 | 1 => Ask::Settle(either_site(dice), u64::from(dice.below(12))),
         2 => Ask::Run(bad_run(dice, &long)),
         3 => Ask::Settle(bad_site(dice), 1),
@@ -210,23 +211,23 @@ fn random_lists<S: Tried>(
 }
 
 #[test]
-fn answers_200_random_lists_as_the_reference_desk(rt: HostRuntime) -> Result<(), Fail> {
-    let (accepted, _) = random_lists::<ListStore>(rt.alloc(), 1973, DECKS, (200, 36))?;
-    holds(("accepted runs", accepted), accepted > 500)
+fn answers_60_random_lists_as_the_reference_desk(rt: HostRuntime) -> Result<(), Fail> {
+    let (accepted, _) = random_lists::<ListStore>(rt.alloc(), 1973, DECKS, (60, 36))?;
+    holds(("accepted runs", accepted), accepted > 150)
 }
 
 #[test]
 fn answers_random_lists_as_the_reference_desk(rt: HostRuntime) -> Result<(), Fail> {
-    let (accepted, _) = random_lists::<Tables>(rt.alloc(), 1974, DECKS, (400, 20))?;
-    holds(("accepted runs", accepted), accepted > 800)
+    let (accepted, _) = random_lists::<Tables>(rt.alloc(), 1974, DECKS, (40, 20))?;
+    holds(("accepted runs", accepted), accepted > 80)
 }
 
 #[test]
 fn rows_in_memory_answer_as_the_tables(rt: HostRuntime) -> Result<(), Fail> {
-    let found = random_lists::<MirrorStore<Tables>>(rt.alloc(), 1975, DECKS, (50, 20))?;
+    let found = random_lists::<MirrorStore<Tables>>(rt.alloc(), 1975, DECKS, (20, 20))?;
     holds(
         ("accepted runs, rows in memory", found),
-        found.0 > 200 && found.1 > 250,
+        found.0 > 80 && found.1 > 100,
     )
 }
 
@@ -235,6 +236,6 @@ fn rows_in_memory_answer_as_the_tables(rt: HostRuntime) -> Result<(), Fail> {
 fn cards_that_move_by_their_keys_answer_as_the_tables(rt: HostRuntime) -> Result<(), Fail> {
     let large = "LINE\n".repeat(rt.alloc(), 400)?;
     let decks = format!(in rt.alloc(); "{DECKS}*DECK P3\n{large}")?;
-    let (accepted, _) = random_lists::<MirrorStore<Tables>>(rt.alloc(), 1976, &decks, (10, 20))?;
-    holds(("accepted runs", accepted), accepted > 40)
+    let (accepted, _) = random_lists::<MirrorStore<Tables>>(rt.alloc(), 1976, &decks, (5, 20))?;
+    holds(("accepted runs", accepted), accepted > 20)
 }

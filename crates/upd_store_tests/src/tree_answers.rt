@@ -130,30 +130,30 @@ fn random_session(alloc: Global, dice: &mut Dice, list: u32) -> Result<Session<T
 #[test]
 fn trees_answer_random_lists_as_the_tables(rt: HostRuntime) -> Result<(), Fail> {
     let mut dice = Dice(1977);
-    for list in 0..40 {
+    for list in 0..10 {
         is_answered_below(random_session(rt.alloc(), &mut dice, list)?, &LISTINGS)?;
     }
     Ok(())
 }
 
-/// A run that adds 1,001 sets.
+/// A run that adds 301 sets.
 fn sets(alloc: Global) -> Result<String, Fail> {
     let mut run = String::new(alloc);
-    for number in 0..1001_u32 {
+    for number in 0..301_u32 {
         write!(run, "*IDENT N{number}\n")?;
     }
     Ok(run)
 }
 
-/// The site of the longest name and the greatest number: a deck with a card without text and 1,001 more.
+/// The site of the longest name and the greatest number: a deck with a card without text and 301 more.
 fn late_deck(alloc: Global) -> Result<String, Fail> {
-    Ok(format!(in alloc; "*DECK LATE\n\n{}", "X\n".repeat(alloc, 1001)?.as_str())?)
+    Ok(format!(in alloc; "*DECK LATE\n\n{}", "X\n".repeat(alloc, 301)?.as_str())?)
 }
 
 /// Questions of that deck.
 pub const LATE: &[Ask<'static>] = &[
     Ask::Card("LATE.2"),
-    Ask::Card("LATE.1003"),
+    Ask::Card("LATE.303"),
     Ask::Card("NEW.1"),
     Ask::Deck("LATE"),
     Ask::Idents,
@@ -166,7 +166,7 @@ const TAKEN: &str = "CARD NEW.1\nDECK LATE\nTEXT NEW\nSTATUS inactive\nENTRY NEW
 /// A yank of each of those sets, and one in the deck.
 fn yanks(alloc: Global) -> Result<String, Fail> {
     let mut run = String::from_str(alloc, "*IDENT Y\n*SELYANK LATE.NEW\n")?;
-    for number in 0..1001_u32 {
+    for number in 0..301_u32 {
         write!(run, "*YANK N{number}\n")?;
     }
     Ok(run)
