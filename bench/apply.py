@@ -22,7 +22,7 @@ TESTS = {
     ("upd_tests", "library_limits::holds_100000_targets"): "4,000 idents and 100,000 targets on 25 yank cards, refused once and accepted once",
     ("upd_tests", "library_limits::introduces_65536_idents"): "a library of 65,535 purged idents from its rows, and the last two",
     ("upd_tests", "library_limits::follows_4000_common_decks_in_one_chain"): "4,000 common decks in one chain, and the choice of a normal compile file",
-    ("upd_store_tests", "changes_of_runs::holds_48000_cards"): "48,000 cards in 24 runs, with their row changes",
+    ("upd_store_tests", "changes_of_runs::holds_48000_cards"): "48,000 cards in 24 runs",
     ("upd_store_tests", "changes_of_runs::takes_1998_texts_at_one_place_of_48000_cards"): "the same, and a run of 1,998 texts at one place",
     ("upd_store_tests", "changes_of_runs::purges_40000_of_48000_cards"): "the same, and a purge of 40,000 cards",
 }

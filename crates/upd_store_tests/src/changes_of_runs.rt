@@ -4,7 +4,7 @@ use std::test::Fail;
 use upd_core::{Change, Library};
 use upd_desk::Desk;
 use upd_memory::{ListStore, MirrorStore};
-use upd_testkit::applying::{after, applied};
+use upd_testkit::applying::{after, applied, take_run};
 use upd_testkit::check::{holds, same, same_text};
 
 /// A run that introduces a deck of 2,000 cards.
@@ -20,7 +20,7 @@ fn deck_of_2000(alloc: Global, deck: u32) -> Result<String, Fail> {
 pub fn with_decks(alloc: Global, decks: u32) -> Result<Library, Fail> {
     let mut library = Library::new(alloc);
     for deck in 0..decks {
-        applied(&mut library, deck_of_2000(alloc, deck)?.as_str())?;
+        take_run(&mut library, deck_of_2000(alloc, deck)?.as_str())?;
     }
     Ok(library)
 }
@@ -108,7 +108,7 @@ fn with_sets(alloc: Global, sets: u32) -> Result<Library, Fail> {
     let mut last = String::from_str(alloc, "DECK0.2000")?;
     for set in 0..sets {
         let name = format!(in alloc; "X{set}")?;
-        applied(&mut library, texts_after(alloc, &name, &last)?.as_str())?;
+        take_run(&mut library, texts_after(alloc, &name, &last)?.as_str())?;
         last = format!(in alloc; "{name}.1998")?;
     }
     Ok(library)

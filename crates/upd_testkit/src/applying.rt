@@ -1,7 +1,7 @@
 //! Names out of texts, and runs applied to a library.
 use std::alloc::Global;
 use std::test::Fail;
-use upd_apply::{Applied, apply};
+use upd_apply::{Applied, ReachedLibrary, apply, reach};
 use upd_core::{CardRef, Library, Name};
 use upd_deck::read_run;
 
@@ -18,6 +18,18 @@ pub fn applied(library: &mut Library, text: &str) -> Result<Applied, Fail> {
     let alloc = library.allocator();
     let run = read_run(alloc, text.as_bytes())?;
     Ok(apply(alloc, library, &run)?)
+}
+
+/// Takes a run, whose row changes nobody asks for.
+pub fn take_run(library: &mut Library, text: &str) -> Result<(), Fail> {
+    let alloc = library.allocator();
+    let run = read_run(alloc, text.as_bytes())?;
+    let ReachedLibrary {
+        library: after,
+        ..
+    } = reach(alloc, library, &run)?;
+    *library = after;
+    Ok(())
 }
 
 /// The library that runs make of the empty one.
