@@ -1,8 +1,8 @@
 //! Tests of the desk and of its stores. Over lists and over SQLite: worked lists of runs, random lists beside the reference
-//! desk, the decks that it reads, row changes, status updates at the limits of a library, commits that fail, and a store
-//! with its rows in memory beside the plain one. In SQLite: rows that another connection reads again, a crash at each call
-//! of the disk, files of the older schemas, one open for both stores, and random lists whose tables are compared row by
-//! row. Those of `surface_desk` and `surface_wire` make each public call of stores, the desk and its wire once, by its path.
+//! desk, the decks that it reads, row changes, commits that fail, and a store with its rows in memory beside the plain one.
+//! In SQLite: rows that another connection reads again, crashes at calls of the disk, files of the older schemas, one open
+//! for both stores, and random lists whose tables are compared row by row. Those of `surface_desk` and `surface_wire` make
+//! each public call of stores, the desk and its wire once, by its path.
 //!
 //! Expected values are worked by hand from `docs/rules.md` and `docs/protocol.md`, or come from the reference desk.
 #![tactic(auto)]
@@ -37,8 +37,6 @@ mod once_opened;
 mod random_lists;
 #[cfg(test)]
 mod refused_directives;
-#[cfg(test)]
-mod status_updates;
 #[cfg(test)]
 mod stored;
 #[cfg(test)]
