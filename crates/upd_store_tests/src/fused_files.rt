@@ -61,8 +61,15 @@ fn file_of(alloc: Global, bytes: &[u8], calls: u64) -> Result<Fused, Fail> {
     Ok(Fuse::new(file, calls))
 }
 
-/// The database in files of any kind, which come back if it can't be opened. Its pages in memory are more than a test's
-/// database has, and few, since each open writes them all.
+/// How a test opens its files: more pages are kept than its database has, and few, since each open writes them all.
+pub fn few_pages() -> Options {
+    Options {
+        cache_pages: 64,
+        ..Options::new(1)
+    }
+}
+
+/// The database in files of any kind, which come back if it can't be opened.
 fn opened_on<D: Disk + Drop>(
     alloc: Global,
     files: Files<D>,
@@ -70,11 +77,7 @@ fn opened_on<D: Disk + Drop>(
     if !files.may_be_used() {
         return Err(files);
     }
-    let options = Options {
-        cache_pages: 64,
-        ..Options::new(1)
-    };
-    match Connection::open_files(alloc, files, options) {
+    match Connection::open_files(alloc, files, few_pages()) {
         Ok(conn) => Ok(conn),
         Err((_, left)) => Err(left.into_files()),
     }

@@ -1,6 +1,6 @@
 //! A library's files, opened once: below SQL for a question and a repeat, through SQL for a new run and where the trees aren't
 //! a library's, and with a fault where a call of the disk fails.
-use crate::fused_files::{Bytes, Fused, Work, work_in};
+use crate::fused_files::{Bytes, Fused, Work, few_pages, work_in};
 use sqlite::Connection;
 use sqlite_disk::Files;
 use std::alloc::Global;
@@ -54,7 +54,7 @@ fn way_of(alloc: Global, files: Files<Fused>, purpose: Purpose<'_>) -> Result<Wa
     if !files.may_be_used() {
         return Err("files that may not be used".into());
     }
-    Ok(match opened(alloc, files, 1, purpose) {
+    Ok(match opened(alloc, files, few_pages(), purpose) {
         Ok(Ok(_)) => Way::Trees,
         Ok(Err(_)) => Way::Sql,
         Err(fault) => Way::Fault(fault.kind, fault.at),
