@@ -4,10 +4,12 @@ use Rattle.upd_desk.proofs.Common.{Err, ◌==◌, ◌&&◌, inl, inr, refl, ap, 
 use Rattle.upd_desk.proofs.Common.{LibraryView, empty, RunView, Rows, Shows, ShowsStates, Mode, Ghosts, IsLost, Keeps, OfMemory, mark_at, run_at, keeps_still}
 use Rattle.upd_desk.proofs.Common.{later_twice, ArrivalView, check_arrival, mode_number, Alike, Event, Came, Journal, answer, distinct, mark, reply_to}
 use Rattle.upd_desk.proofs.Common.{library_after, IsMade, ReplyView, outcome, Arrives, Becomes, Guards, HoldsIn, IsHeld, IsIdle, IsLeft, TriesRun, is_lost}
-use Rattle.std.proofs.Common.{IsSome, IsErrAnd}
+use Rattle.std.proofs.Common.{IsSome}
 use Rattle.upd_text.specs.declared.fault.FaultKind.TheVariants as fault
-use Rattle.upd_row_store.specs.Keeping.{OfStore}
-use Rattle.upd_desk.specs.Holding.{IsUnadmitted}
+use Rattle.std.specs.Prelude.{IfErr, OnErr, OnOk}
+use Rattle.std.specs.Result.{result_map_both}
+use Rattle.upd_row_store.specs.Keeping.{OfStore, OpensOk}
+use Rattle.upd_desk.specs.Holding.{FindsMade}
 use Rattle.upd_desk.proofs.AlikeLemmas.{alike_more, alike_unheard, holds_alike, holds_new}
 use Rattle.upd_desk.proofs.AnswerLemmas.{answer_again, answer_unadmitted, answer_new, answer_settled, admission_not_lost}
 use Rattle.upd_desk.proofs.RepeatLemmas.{refused_unheard}
@@ -149,7 +151,7 @@ module _ {S : Type 0} {meaning : Ghosts S} where
       (later.0, later.1, holds_new j a mode rows later.0 held new.passed above (new.found is rows shown) later.2)
 
   -- A call that failed and may have tried to keep a new run: it is in hand.
-  pub loses_new : (made : (j : Journal) → IsMade (library_after j)) (mode : Mode) (a : ArrivalView) (f : Fault) (old new : S)
+  loses_new : (made : (j : Journal) → IsMade (library_after j)) (mode : Mode) (a : ArrivalView) (f : Fault) (old new : S)
       → TriesRun meaning mode a old new → (is_honest old → IsAsked meaning mode a None old) → IsLost f
       → (is_honest new → is_open new → image new ≡ image old) → Arrives meaning a (Err f) old new
   loses_new made mode a f old new tries is_new lost same = record {
@@ -168,7 +170,7 @@ module _ {S : Type 0} {meaning : Ghosts S} where
           (becomes_held made mode a old i j (is_new (tries.later.honest honest)) is (guards.shown is) becomes)
 
   -- A new run was kept: the store holds the journal with it, and nothing is in hand.
-  pub keeps_new : (made : (j : Journal) → IsMade (library_after j))
+  keeps_new : (made : (j : Journal) → IsMade (library_after j))
       (leaves : LeavesTables meaning) (mode : Mode) (a : ArrivalView) (reply : ReplyView)
       (old new : S) → TriesRun meaning mode a old new → (is_honest old → IsAsked meaning mode a None old)
       → (is_honest new → is_open new) → (is_honest new → Becomes shows mode a (image old) (image new))
@@ -202,6 +204,18 @@ module _ {S : Type 0} {meaning : Ghosts S} where
           let new = is_new (tries.later.honest honest) in
           let first = answer_new j a mode rows held new.passed (new.above (was_open honest) rows shown) (new.found (was_open honest) rows shown) in
           first ∙ ap Ok (sym (replies honest (library_after j) (made j) rows shown held.library held.states))
+
+  -- a new run, whether it is kept or lost
+  pub new_arrives : (made : (j : Journal) → IsMade (library_after j)) (leaves : LeavesTables meaning) {A : Type 0} (told : A → ReplyView) (mode : Mode)
+      (a : ArrivalView) (result : Result A Fault) (old new : S) → TriesRun meaning mode a old new → (is_honest old → IsAsked meaning mode a None old)
+      → OpensOk meaning result new → (is_honest new → OnOk result (Becomes shows mode a (image old) (image new)))
+      → FindsMade meaning result old new (λ l rows answered. ShowsStates rows l → told answered ≡ (outcome mode a l).reply)
+      → IfErr result IsLost → (is_honest new → is_open new → OnErr result (image new ≡ image old))
+      → Arrives meaning a (result_map_both told (λ f. f) result) old new
+  new_arrives made leaves told mode a (Ok answered) old new tries is_new opens becomes replies lost same =
+      keeps_new made leaves mode a (told answered) old new tries is_new opens becomes replies
+  new_arrives made leaves told mode a (Err f) old new tries is_new opens becomes replies lost same =
+      loses_new made mode a f old new tries is_new lost same
 
   -- ---- calls before that only read
 

@@ -13,6 +13,12 @@ use Rattle.upd_row_store.specs.declared.asked.DeckOf.{DeckOf}
 use Rattle.upd_row_store.specs.declared.asked.DeckOf.TheVariants.{Named, Holding}
 use Rattle.upd_partial.proofs.NeededLemmas.{card_kept}
 use Rattle.upd_partial.proofs.PartListingLemmas.{card_listed_by_part, deck_listed_by_part}
+use Rattle.upd_row_store.specs.Keeping.{FindsLibrary, LeavesDeck, LeavesLoad}
+use Rattle.upd_desk.specs.Holding.{EachHeld}
+use Rattle.upd_desk.proofs.Common.{Err, Ghosts, library_after}
+use Rattle.upd_desk.proofs.LoadingLemmas.{none_read, still_read, within}
+use Rattle.upd_desk.proofs.MadeLemmas.{library_made}
+use Rattle.upd_desk.proofs.QueryLemmas.{held_rows, of_held}
 use Rattle.upd_desk.proofs.StandingLemmas.{among_own, one_holder}
 
 pub deck_listed : (name : List ℕ) (found l : LibraryView) → found ≡ part_of (ages_asked (Named name) l) l
@@ -59,10 +65,34 @@ few_asked (Named name) l sound = go (deck_of name l)
     go (Some d) = omega arith
 few_asked (Holding card) l sound = one_holder card l sound
 
-pub one_read : (asked : DeckOf) (l found : LibraryView) (old new : ℕ) → IsSound l → new ≤ old + length found.decks
+one_read : (asked : DeckOf) (l found : LibraryView) (old new : ℕ) → IsSound l → new ≤ old + length found.decks
     → found ≡ part_of (ages_asked asked l) l → new ≤ old + 1
 one_read asked l found old new sound reads is =
     let few = decks_few (ages_asked asked l) l sound in
     let one = few_asked asked l sound in
     let here : length found.decks ≤ 1 = subst (λ m. length m.decks ≤ 1) (sym is) (omega (arith, few, one)) in
     omega (arith, reads, here)
+
+module _ {S : Type 0} {meaning : Ghosts S} where
+  open meaning use {shows, image, decks_read_of}
+
+  -- a load of one deck reads one of each library that the store holds, at most
+  pub deck_read : (asked : DeckOf) (result : Result LibraryView Fault) (old new : S) → LeavesDeck meaning result old new
+      → FindsLibrary meaning result old new (λ l rows found. found ≡ part_of (ages_asked asked l) l)
+      → EachHeld meaning old new (λ journal. decks_read_of new ≤ decks_read_of old + 1)
+  deck_read asked (Ok part) old new leaves finds honest j held =
+      of_held shows (image old) (leaves.same.later.was_open honest (leaves.opens honest))
+      (λ l made rows shown holds. one_read asked l part _ _ made.sound
+      (leaves.reads honest l made.sound made.whole (λ opened. (rows, shown, holds))) (finds honest l made.sound made.whole rows shown holds)) j held
+  deck_read asked (Err f) old new leaves finds honest j held =
+      let made = library_made j in
+      within _ _ 1 (leaves.reads honest (library_after j) made.sound made.whole (λ opened. held_rows shows (image old) j (held opened)))
+
+  -- the directory is read without any
+  pub head_of_held : (n : ℕ) (result : Result LibraryView Fault) (old new : S) → LeavesLoad meaning result old new
+      → FindsLibrary meaning result old new (λ l rows found. found ≡ part_of [] l)
+      → EachHeld meaning old new (λ journal. decks_read_of new ≤ decks_read_of old + n)
+  head_of_held n (Ok head) old new leaves finds honest j held =
+      of_held shows (image old) (leaves.same.later.was_open honest (leaves.opens honest))
+      (λ l made rows shown holds. within _ _ n (none_read _ _ l head made.sound (finds honest l made.sound made.whole rows shown holds) leaves.reads)) j held
+  head_of_held n (Err f) old new leaves finds honest j held = within _ _ n (still_read _ _ leaves.reads)

@@ -5,11 +5,14 @@ use Rattle.upd_desk.proofs.Common.{LibraryView, ref_of, part_of, IsSound, LineVi
 use Rattle.upd_desk.proofs.Common.{decks_few, whole_part, reading, needed}
 use Rattle.std.specs.Prelude.{◌==◌}
 use Rattle.upd_core.specs.First.{index_from}
+use Rattle.upd_core.specs.Sound.{IsWhole}
 use Rattle.upd_core.specs.Library.{ident_of, is_card, place_in}
 use Rattle.upd_core.proofs.ApartLemmas.{all_at, all_mapped}
 use Rattle.upd_core.proofs.FoundLemmas.{place_found}
 use Rattle.upd_row_store.specs.Asked.{are_in_yanks}
-use Rattle.upd_row_store.specs.Keeping.{reads_with}
+use Rattle.upd_row_store.specs.Keeping.{IsShown, reads_after, reads_with}
+use Rattle.upd_desk.specs.Holding.{FindsMade, ReadsAtMost}
+use Rattle.upd_desk.proofs.Common.{Err, Fault, Ghosts, IsMade, Keeps, Result, Rows, Shows}
 use Rattle.upd_partial.specs.Needed.{AreAlike}
 use Rattle.upd_partial.proofs.NeededLemmas.{none_yank}
 
@@ -141,7 +144,7 @@ asked_read ages l found old mid new n sound less reads is few =
     let less_yet = decks_few ages l sound in
     few_more old mid new n found reads less (subst (λ m. length m.decks ≤ n) (sym is) (omega (arith, less_yet, few)))
 
-pub needed_read : (lines : List LineView) (l found : LibraryView) (old mid new : ℕ) → IsSound l → mid ≤ old → new ≡ reads_with found mid
+needed_read : (lines : List LineView) (l found : LibraryView) (old mid new : ℕ) → IsSound l → mid ≤ old → new ≡ reads_with found mid
     → found ≡ part_of (decks_needed lines l) l → new ≤ old + length (decks_needed lines l)
 needed_read lines l found old mid new sound less reads is =
     asked_read (decks_needed lines l) l found old mid new (length (decks_needed lines l)) sound less reads is (omega arith)
@@ -172,3 +175,32 @@ pub reads_of_run : (bytes : List ℕ) (l : LibraryView) (lines : List LineView) 
 reads_of_run bytes l lines old new read less =
     let same : needed bytes l ≡ decks_needed lines l = rw read refl in
     subst (λ ds. new ≤ old + length ds) (sym same) less
+
+module _ {S : Type 0} (meaning : Ghosts S) where
+  open meaning use {is_honest, decks_read_of}
+
+  -- a load of what a run needs reads no more decks, after calls that read none
+  pub reads_needed : (lines : List LineView) (result : Result LibraryView Fault) (old mid new : S)
+      → (is_honest new → (l : LibraryView) → IsMade l → (rows : Rows) → IsShown meaning rows old → Shows rows l
+      → decks_read_of mid ≤ decks_read_of old)
+      → decks_read_of new ≡ reads_after result (decks_read_of mid)
+      → FindsMade meaning result old new (λ l rows found. found ≡ part_of (decks_needed lines l) l)
+      → ReadsAtMost meaning result old new (λ l. length (decks_needed lines l))
+  reads_needed lines (Ok found) old mid new less reads finds = λ honest l made rows shown holds.
+      needed_read lines l found _ _ _ made.sound (less honest l made rows shown holds) reads (finds honest l made rows shown holds)
+  reads_needed lines (Err f) old mid new less reads finds = λ honest. tt
+
+module _ {S : Type 0} {meaning : Ghosts S} where
+  open meaning use {shows, is_open, is_honest, decks_read_of}
+
+  -- the directory is read without any deck, after a call that reads none
+  pub none_with_head : (head : LibraryView) (old mid new : S) → Keeps meaning old mid → (is_honest mid → is_open mid)
+      → decks_read_of mid ≡ decks_read_of old
+      → (is_honest new → is_honest mid)
+      → (is_honest new → (l : LibraryView) → IsSound l → IsWhole l → (rows : Rows) → IsShown meaning rows mid → Shows rows l
+      → head ≡ part_of [] l)
+      → decks_read_of new ≡ reads_with head (decks_read_of mid) → is_honest new
+      → (l : LibraryView) → IsMade l → (rows : Rows) → IsShown meaning rows old → Shows rows l → decks_read_of new ≤ decks_read_of old
+  none_with_head head old mid new keeps opens unread before finds reads honest l made rows shown holds =
+      let there = subst (λ i. shows i rows) (sym (keeps.same (before honest) (opens (before honest)))) shown in
+      head_read _ _ _ unread (none_read _ _ l head made.sound (finds honest l made.sound made.whole rows there holds) reads)

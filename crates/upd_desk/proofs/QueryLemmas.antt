@@ -1,9 +1,10 @@
 -- What a query of a desk tells.
 use Rattle.upd_desk.proofs.Common.{◌≡◌, ℕ, nat_lt, Bool, true, false, ◌⊎◌, if◌then◌else◌, List, [], ◌∷◌, ◌++◌, take, Option, Some, None, Result, Ok, Err, inl}
 use Rattle.upd_desk.proofs.Common.{inr, refl, ap, sym, ◌∙◌, subst, flat_map, Fault, FaultKind, NoMemory, CardRef, fault_at, ◌>>=◌, FailsAt, FailsOf, at_line}
-use Rattle.upd_desk.proofs.Common.{need, MAX_DEPTH, ActivesView, CardView, LibraryView, place_of, part_of, live_targets, Place, FileView, file_of}
+use Rattle.upd_desk.proofs.Common.{need, MAX_DEPTH, ActivesView, CardView, LibraryView, place_of, live_targets, Place, FileView, file_of}
 use Rattle.upd_desk.proofs.Common.{card_listing, deck_listing, walk, Mode, Rows, Shows, ShowsStates, Ghosts, IsLost, Keeps, OfMemory, Journal, library_after}
-use Rattle.upd_desk.proofs.Common.{IsMade, HoldsIn, is_lost, listing}
+use Rattle.upd_desk.proofs.Common.{IsMade, HoldsIn, is_lost, listing, uncounted}
+use Rattle.upd_desk.proofs.ArrivesLemmas.{unstored}
 use Rattle.std.specs.Prelude.{count_by}
 use Rattle.std.specs.List.{enumerate_from, filter_map}
 use Rattle.upd_text.specs.declared.fault.FaultKind.TheVariants.{CallDepth, CallUnknown, CardUnknown, CompileLong, DeckUnknown, Store}
@@ -15,11 +16,15 @@ use Rattle.upd_compile.specs.Listings.{card_lines, deck_heading, deck_line, list
 use Rattle.upd_compile.specs.Walk.{WalkEvent, Line, Follow, Depth, Unknown}
 use Rattle.std.specs.List.{find}
 use Rattle.std.specs.Option.{option_map_or}
+use Rattle.std.specs.Result.{result_map_both}
+use Rattle.std.specs.Prelude.{IfErr, IfOk}
 use Rattle.upd_row_store.specs.Tables.{ListsRuns, is_mark_of, is_run}
 use Rattle.upd_row_store.specs.declared.store.StoredRuns.{StoredRuns}
-use Rattle.upd_desk.specs.Holding.{AreStored, EachHeld, IsOwed, Tells}
+use Rattle.upd_text.specs.Outcome.{GivesAt}
+use Rattle.upd_row_store.specs.Keeping.{FindsLibrary, FindsRows, LeavesLoad, LeavesRead}
+use Rattle.upd_desk.specs.Holding.{AreStored, EachHeld, IsOwed, LeavesQuery, Tells}
 use Rattle.upd_desk.specs.Outcomes.{IsFileFault}
-use Rattle.upd_desk.specs.Queries.{IsMiss, decks_asked}
+use Rattle.upd_desk.specs.Queries.{IsMiss}
 use Rattle.upd_desk.specs.declared.library_queries.Query.{Query}
 use Rattle.upd_desk.specs.declared.library_queries.Query.TheVariants.{Deck, Card, Idents, Yanks}
 use Rattle.upd_desk.proofs.MadeLemmas.{library_made}
@@ -37,6 +42,12 @@ fails_owed f defined fails = by (fails_by f defined fails)
 pub store_fails : {A : Type 0} (f : Fault) (defined : Result A Fault) → f.kind ≡ Store → FailsAt f defined → defined ≡ Err f
 store_fails f defined is fails = subst (λ k. FailsOf k f defined) is fails
 
+-- a last call met what is expected, or was lost
+pub gives_owed : {X A : Type 0} (view : X → A) (result : Result X Fault) (defined : Result A Fault) → GivesAt view result defined
+    → IsOwed defined (result_map_both view (λ f. f) result)
+gives_owed view (Ok x) defined gives = gives
+gives_owed view (Err f) defined fails = fails_owed f defined fails
+
 -- what is so of each library that tables show is so of the library after each journal that they hold
 pub of_held : {Image Open P : Type 0} (shows : Image → Rows → Type 0) (image : Image) → Open
     → ((l : LibraryView) → IsMade l → (rows : Rows) → shows image rows → Shows rows l → P) → (j : Journal) → (Open → HoldsIn shows j image) → P
@@ -51,7 +62,7 @@ pub held_rows : {Image : Type 0} (shows : Image → Rows → Type 0) (image : Im
 held_rows shows image j (rows, shown, holds) = (rows, shown, holds.library)
 
 module _ {S : Type 0} {meaning : Ghosts S} where
-  open meaning use {shows, image, is_open, is_honest}
+  open meaning use {shows, image, is_open, is_honest, failures_of}
 
   -- what is expected of what was loaded is expected of the library after the journal, where the same is defined of both
   pub tells_same : (made : (j : Journal) → IsMade (library_after j)) {A : Type 0} (defined : LibraryView → Result A Fault) (owed result : Result A Fault)
@@ -64,10 +75,32 @@ module _ {S : Type 0} {meaning : Ghosts S} where
       by (rows, shown, holds) =
           subst (λ o. IsOwed o result) (same honest (library_after j) (made j) rows shown holds.library holds.states) meets
 
+  -- a library that was loaded is the one after each journal that the store holds
+  pub library_told : (made : (j : Journal) → IsMade (library_after j)) (result : Result LibraryView Fault) (old new : S) → LeavesLoad meaning result old new
+      → FindsLibrary meaning result old new (λ l rows found. found ≡ l) → Tells meaning (λ l. Ok l) result old new
+  library_told made (Ok found) old new leaves finds =
+      tells_same made (λ l. Ok l) (Ok found) (Ok found) old new leaves.same leaves.opens
+      (λ honest l made rows shown shows states. ap Ok (finds honest l made.sound made.whole rows shown shows)) refl
+  library_told made (Err f) old new leaves finds = λ honest j held. inl leaves.lost
+
+  -- what a query leaves that ends in a call without the store
+  pub query_left : {X A : Type 0} (view : X → A) (result : Result X Fault) (defined : Result A Fault) (old new : S) (work : ℕ) → Keeps meaning old new
+      → (is_honest new → is_open new) → failures_of new ≡ failures_of old → ((f : Fault) → defined ≡ Err f → is_lost f.kind ≡ false)
+      → GivesAt view result defined → LeavesQuery meaning result old new work work
+  query_left view (Ok x) defined old new work keeps opens failed stays gives =
+      record { opens = opens; same = keeps; failed = failed; idle = refl }
+  query_left view (Err f) defined old new work keeps opens failed stays fails = record {
+    opens = λ honest. tt;
+    same = keeps;
+    failed = failed ∙ uncounted f.kind _ (λ is. unstored f (stays f (store_fails f defined is fails)) is);
+    idle = refl;
+  }
+
   -- what was listed of tables is what is expected after the journal that they hold
-  pub stored_told : (found : StoredRuns) (old new : S) → Keeps meaning old new → (is_honest new → is_open new)
-      → (is_honest new → (rows : Rows) → shows (image old) rows → ListsRuns rows found) → EachHeld meaning old new (λ journal. AreStored journal found)
-  stored_told found old new keeps opens lists honest j held = by (held (keeps.later.was_open honest (opens honest)))
+  pub stored_told : (result : Result StoredRuns Fault) (old new : S) → LeavesRead meaning result old new → FindsRows meaning result old new ListsRuns
+      → EachHeld meaning old new (λ journal. IfOk result (AreStored journal))
+  stored_told (Err f) old new leaves lists honest j held = tt
+  stored_told (Ok found) old new leaves lists honest j held = by (held (leaves.same.later.was_open honest (leaves.opens honest)))
     where
       by : HoldsIn shows j (image old) → AreStored j found
       by (rows, shown, holds) =
@@ -146,12 +179,17 @@ compile_keeps mode named before after f is = by (compile_met mode named before a
 -- ---- faults
 
 -- what fails by a definition was lost, or met what the definition can meet
-pub faults_by : {A Met : Type 0} (f : Fault) (defined : Result A Fault) → (defined ≡ Err f → Met) → FailsAt f defined → IsLost f ⊎ Met
+faults_by : {A Met : Type 0} (f : Fault) (defined : Result A Fault) → (defined ≡ Err f → Met) → FailsAt f defined → IsLost f ⊎ Met
 faults_by {A} {Met} f defined met fails = by (fails_owed f defined fails)
   where
     by : IsLost f ⊎ (defined ≡ Err f) → IsLost f ⊎ Met
     by (inl lost) = inl lost
     by (inr is) = inr (met is)
+
+pub gives_faults : {X A : Type 0} {Met : Fault → Type 0} (view : X → A) (result : Result X Fault) (defined : Result A Fault)
+    → ((f : Fault) → defined ≡ Err f → Met f) → GivesAt view result defined → IfErr result (λ f. IsLost f ⊎ Met f)
+gives_faults view (Ok x) defined met gives = tt
+gives_faults view (Err f) defined met fails = faults_by f defined (met f) fails
 
 -- the listing of a deck is refused where there is no deck with the name
 deck_met : (name : List ℕ) (l : LibraryView) (f : Fault) → deck_listing name l ≡ Err f → f ≡ fault_at DeckUnknown 0

@@ -2,8 +2,9 @@
 use Rattle.upd_desk.proofs.Common.{◌≡◌, ℕ, ◌<◌, ◌≤◌, nat_le, max, Bool, true, false, not, ◌⊎◌, if◌then◌else◌, List, ◌∷◌, Ok, Err, inl, inr, refl, ap, sym}
 use Rattle.upd_desk.proofs.Common.{◌∙◌, subst, rules, arith, bytes_eq, false≢true, nat_tests, Fault, ◌>>=◌, at_line, refuse_if, Rows, Ghosts, IsLost, Keeps}
 use Rattle.upd_desk.proofs.Common.{Tries, mark_at, settled_to, later_twice, max_right, same_bytes, is_run_number, is_site, check_key, Alike, Event, Settled}
-use Rattle.upd_desk.proofs.Common.{Journal, mark, library_after, Guards, Holds, HoldsIn, IsHeld, IsLeft, is_lost}
+use Rattle.upd_desk.proofs.Common.{Journal, Result, mark, library_after, Guards, Holds, HoldsIn, IsHeld, IsLeft, is_lost}
 use Rattle.upd_text.specs.declared.fault.FaultKind.TheVariants as fault
+use Rattle.upd_row_store.specs.Keeping.{FindsRows, LeavesWrite}
 use Rattle.upd_row_store.proofs.TableLemmas.{shows_settled, states_settled}
 use Rattle.upd_desk.specs.Holding.{IsIdleSettlement, Settles, mark_after}
 use Rattle.upd_desk.proofs.ArrivesLemmas.{LeavesTables, holds_in_alike, left_held, left_here, left_more, lost_kind}
@@ -105,7 +106,7 @@ module _ {S : Type 0} {meaning : Ghosts S} where
           (holds_in_alike shows j (Settled site n ∷ j) (image old) (alike honest j before) before)
 
   -- a settlement that was carried out after a call that only read
-  pub settles_after : (leaves : LeavesTables meaning) (site : List ℕ) (n before m : ℕ)
+  settles_after : (leaves : LeavesTables meaning) (site : List ℕ) (n before m : ℕ)
       (old mid new : S) → Keeps meaning old mid
       → (is_honest mid → (rows : Rows) → shows (image old) rows → before ≡ mark_at site rows) → before < n
       → Tries meaning (λ _. Unit {0}) (settled_to site n) mid new → (is_honest new → is_open new)
@@ -141,7 +142,7 @@ module _ {S : Type 0} {meaning : Ghosts S} where
       holds honest j (rows, shown, held) = (settled_to site n rows, (done honest rows shown).1, holds_settled j site n rows held)
 
   -- a settlement that failed after such a call and may have been carried out: it is in hand
-  pub loses_settlement : (site : List ℕ) (n : ℕ) (f : Fault) (old mid new : S) → Keeps meaning old mid
+  loses_settlement : (site : List ℕ) (n : ℕ) (f : Fault) (old mid new : S) → Keeps meaning old mid
       → Tries meaning (λ _. Unit {0}) (settled_to site n) mid new → IsLost f
       → (is_honest new → is_open new → image new ≡ image mid) → Settles meaning site n (Err f) old new
   loses_settlement site n f old mid new keeps tries lost same = record {
@@ -168,3 +169,14 @@ module _ {S : Type 0} {meaning : Ghosts S} where
       by honest j hand guards i (inl may) = left_more shows j (Settled site n) hand i (guards.left i (keeps.crash honest i may))
       by honest j hand guards i (inr (is, writes)) =
           left_here shows j (Settled site n) hand i (carried j i writes (there honest j guards.shown is))
+
+  -- a settlement after a call that only read, whether it is carried out or fails
+  pub settles_then : (leaves : LeavesTables meaning) (site : List ℕ) (n before : ℕ) (result : Result ℕ Fault) (old mid new : S) → Keeps meaning old mid
+      → (is_honest mid → (rows : Rows) → shows (image old) rows → before ≡ mark_at site rows) → before < n → check_key site n ≡ Ok false
+      → LeavesWrite meaning (λ _. Unit {0}) (settled_to site n) result mid new
+      → FindsRows meaning result mid new (λ rows m. (m ≡ mark_at site (settled_to site n rows)) × shows (image new) (settled_to site n rows))
+      → Settles meaning site n result old new
+  settles_then leaves site n before (Ok m) old mid new keeps marks below passed writes done =
+      settles_after leaves site n before m old mid new keeps marks below writes.crash writes.opens passed done
+  settles_then leaves site n before (Err f) old mid new keeps marks below passed writes done =
+      loses_settlement site n f old mid new keeps writes.crash writes.lost writes.undone

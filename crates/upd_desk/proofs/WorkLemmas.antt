@@ -3,10 +3,14 @@ use Rattle.upd_desk.proofs.Common.{◌≡◌, ℕ, ◌+◌, ◌≤◌, nat_lt, t
 use Rattle.upd_desk.proofs.Common.{LibraryView, RunView, Rows, Shows, ShowsStates, Mode, Ghosts, Keeps, run_at, altered, ArrivalView, check_arrival, Came}
 use Rattle.upd_desk.proofs.Common.{Journal, distinct, kept, made_by, mark, library_after, IsMade, looked_at, needed, needed_by, compiled, outcome, Holds}
 use Rattle.upd_desk.proofs.Common.{HoldsIn, IsWork, TriesRun}
+use Rattle.upd_desk.proofs.Common.{Err, Fault, IsLost, Result, false≢true}
+use Rattle.std.specs.Prelude.{IfErr}
+use Rattle.upd_row_store.specs.Keeping.{OpensOk}
+use Rattle.upd_desk.specs.Holding.{FindsMade, LooksAt, ReadsAtMost, ReadsNeeded}
 use Rattle.upd_desk.specs.Made.{work_of}
 use Rattle.upd_desk.proofs.AlikeLemmas.{unheard_key}
 use Rattle.upd_desk.proofs.AnswerLemmas.{answer_again}
-use Rattle.upd_desk.proofs.ArrivesLemmas.{IsAsked}
+use Rattle.upd_desk.proofs.ArrivesLemmas.{IsAsked, lost_kind}
 use Rattle.upd_desk.proofs.JournalLemmas.{heard_new}
 use Rattle.upd_desk.proofs.MadeLemmas.{library_made}
 use Rattle.upd_desk.proofs.RefusedLemmas.{unaltered}
@@ -36,7 +40,7 @@ its_altered j a mode rows n held passed above none less =
     (sym (heard_new j a mode passed above (unheard_key j rows a.site a.number held above none))) less
 
 module _ {S : Type 0} {meaning : Ghosts S} where
-  open meaning use {shows, image, is_open, is_honest}
+  open meaning use {shows, image, is_open, is_honest, decks_read_of}
 
   -- what was held before calls that only read is held after them
   held_there : (old mid : S) → Keeps meaning old mid → is_honest mid → is_open mid → (j : Journal) → (is_open old → HoldsIn shows j (image old))
@@ -57,7 +61,7 @@ module _ {S : Type 0} {meaning : Ghosts S} where
 
   -- ---- a new run
 
-  pub work_kept : (mode : Mode) (a : ArrivalView) (work : ℕ) (old mid new : S) → Keeps meaning old mid
+  work_kept : (mode : Mode) (a : ArrivalView) (work : ℕ) (old mid new : S) → Keeps meaning old mid
       → TriesRun meaning mode a mid new
       → (is_honest mid → IsAsked meaning mode a None mid) → (is_honest new → is_open new)
       → (is_honest new → (l : LibraryView) → IsMade l → (rows : Rows) → shows (image mid) rows → Shows rows l → ShowsStates rows l
@@ -80,7 +84,7 @@ module _ {S : Type 0} {meaning : Ghosts S} where
           )
 
   -- no more decks are read than a new run needs
-  pub reads_kept : (mode : Mode) (a : ArrivalView) (first after next : ℕ) (old mid new : S) → Keeps meaning old mid
+  reads_kept : (mode : Mode) (a : ArrivalView) (first after next : ℕ) (old mid new : S) → Keeps meaning old mid
       → TriesRun meaning mode a mid new
       → (is_honest mid → IsAsked meaning mode a None mid) → (is_honest new → is_open new) → after ≡ first
       → (is_honest new → (l : LibraryView) → IsMade l → (rows : Rows) → shows (image mid) rows → Shows rows l
@@ -97,3 +101,22 @@ module _ {S : Type 0} {meaning : Ghosts S} where
           let same : needed_by j a ≡ needed a.bytes (library_after j) = rw unkept refl in
           subst (λ ds. next ≤ first + length ds) (sym same) (subst (λ n. next ≤ n + length (needed a.bytes (library_after j))) none
           (reads honest (library_after j) (library_made j) rows shown holds.library))
+
+  -- the cards and decks of a new run, whether it is kept or lost
+  pub work_of_new : {A : Type 0} (work : A → ℕ) (mode : Mode) (a : ArrivalView) (result : Result A Fault) (old mid new : S) → Keeps meaning old mid
+      → TriesRun meaning mode a mid new → (is_honest mid → IsAsked meaning mode a None mid) → OpensOk meaning result new
+      → FindsMade meaning result mid new (λ l rows answered. ShowsStates rows l → work answered ≡ looked_at l (compiled mode a.bytes l))
+      → FindsMade meaning result mid new (λ l rows answered. ShowsStates rows l → length (altered l (outcome mode a l).library) ≤ work answered)
+      → LooksAt meaning a result work old new
+  work_of_new work mode a (Ok answered) old mid new keeps tries asks opens looks least =
+      work_kept mode a (work answered) old mid new keeps tries asks opens looks least
+  work_of_new work mode a (Err f) old mid new keeps tries asks opens looks least = λ honest j held. tt
+
+  pub reads_of_new : {A : Type 0} (mode : Mode) (a : ArrivalView) (result : Result A Fault) (old mid new : S) → Keeps meaning old mid
+      → TriesRun meaning mode a mid new → (is_honest mid → IsAsked meaning mode a None mid) → OpensOk meaning result new
+      → decks_read_of mid ≡ decks_read_of old → ReadsAtMost meaning result mid new (λ l. length (needed a.bytes l)) → IfErr result IsLost
+      → ReadsNeeded meaning a result old new
+  reads_of_new mode a (Ok x) old mid new keeps tries asks opens none reads lost =
+      (reads_kept mode a _ _ _ old mid new keeps tries asks opens none reads, tt)
+  reads_of_new mode a (Err f) old mid new keeps tries asks opens none reads lost =
+      (λ honest j held. tt, λ stays. absurd (false≢true (sym stays ∙ lost_kind f lost)))

@@ -94,13 +94,11 @@ fn keep_new<S: RowStore>(
 {
     let outcome = run_outcome(store, alloc, mode, arrival)?;
     let run = stored_row(alloc, mode, arrival, &outcome.reply)?;
-    match store.commit(alloc, &outcome.changes, run) {
-        Ok(()) => Ok(Answered {
-            reply: outcome.reply,
-            work: outcome.work,
-        }),
-        Err(fault) => Err(fault),
-    }
+    store.commit(alloc, &outcome.changes, run)?;
+    Ok(Answered {
+        reply: outcome.reply,
+        work: outcome.work,
+    })
 }
 
 /// The answer to an arrival: by the admission checks, by the site's mark, by the stored run of its key, or by what its
@@ -125,13 +123,10 @@ pub(crate) fn arrive_at<S: RowStore>(
     }
     let kept = store.kept_run(alloc, arrival.site, arrival.number)?;
     match kept {
-        Some(run) => match repeat_answer(run, mode, arrival) {
-            Ok(reply) => Ok(Answered { reply, work: 0 }),
-            Err(fault) => Err(fault),
-        },
-        None => match keep_new(store, alloc, mode, arrival) {
-            Ok(answered) => Ok(answered),
-            Err(fault) => Err(fault),
-        },
+        Some(run) => {
+            let reply = repeat_answer(run, mode, arrival)?;
+            Ok(Answered { reply, work: 0 })
+        }
+        None => keep_new(store, alloc, mode, arrival),
     }
 }

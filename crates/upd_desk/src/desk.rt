@@ -17,12 +17,10 @@ ghost use Rattle.upd_row_store.specs.Tables.{ListsRuns};
 ghost use Rattle.upd_text.specs.Faults.{fault_at};
 ghost use Rattle.upd_text.specs.declared.fault.FaultKind.TheVariants.{CardUnknown, DeckUnknown, NoMemory};
 
-use crate::arrival::Arrival;
+use crate::arrival::{Arrival, check_key};
 use crate::arrive::arrive_at;
-use crate::known_keys::is_known_at;
 use crate::library_queries::{Query, list, load_listed};
 use crate::reply::Reply;
-use crate::settlement::settle_at;
 use std::alloc::Global;
 use upd_compile::{CompileFile, Mode, compile_active};
 use upd_core::{CardRef, Library, Name};
@@ -105,13 +103,9 @@ impl<S: RowStore> Desk<S> {
     fn arrive_one(&mut self, alloc: Global, arrival: &Arrival<'_>) -> Result<Reply, Fault>
         ensures { AnswersArrival S.Meaning arrival.now result self.old.store self.new.store self.old.work self.new.work }
     {
-        match arrive_at(&mut self.store, alloc, arrival) {
-            Ok(answered) => {
-                self.work = answered.work;
-                Ok(answered.reply)
-            }
-            Err(fault) => Err(fault),
-        }
+        let answered = arrive_at(&mut self.store, alloc, arrival)?;
+        self.work = answered.work;
+        Ok(answered.reply)
     }
 
     /// The answers to arrivals one after the other. One that runs out of memory, or whose store fails, gets that fault,
@@ -159,10 +153,12 @@ impl<S: RowStore> Desk<S> {
         ensures faults { IfErr result (IsSettlementFault site.now number) }
         ensures failed { CountsFailure S.Meaning result self.old.store self.new.store }
     {
-        match settle_at(&mut self.store, alloc, site, number) {
-            Ok(mark) => Ok(mark),
-            Err(fault) => Err(fault),
+        check_key(site, number)?;
+        let mark = self.store.mark(alloc, site)?;
+        if number <= mark {
+            return Ok(mark);
         }
+        self.store.settle_to(alloc, site, number)
     }
 
     /// Whether a run under this key would be a repeat, RunChanged or Settled: its number is settled, or has a stored run. The
@@ -174,10 +170,11 @@ impl<S: RowStore> Desk<S> {
         ensures lost { IfErr result IsLost }
         ensures leaves { LeavesQuery S.Meaning result self.old.store self.new.store self.old.work self.new.work }
     {
-        match is_known_at(&mut self.store, alloc, site, number) {
-            Ok(known) => Ok(known),
-            Err(fault) => Err(fault),
+        let mark = self.store.mark(alloc, site)?;
+        if number <= mark {
+            return Ok(true);
         }
+        Ok(self.store.kept_run(alloc, site, number)?.is_some())
     }
 
     /// The compile file of all decks that aren't common. CallUnknown, CallDepth or CompileLong, at 0, where the walk
@@ -190,10 +187,7 @@ impl<S: RowStore> Desk<S> {
         ensures leaves { LeavesQuery S.Meaning result self.old.store self.new.store self.old.work self.new.work }
     {
         let actives = self.store.load_active(alloc)?;
-        match compile_active(alloc, &actives, &actives, Mode::Full, &[]) {
-            Ok(text) => Ok(text),
-            Err(fault) => Err(fault),
-        }
+        compile_active(alloc, &actives, &actives, Mode::Full, &[])
     }
 
     /// The whole library, as the runs have made it. After NoMemory or Store, at 0, it can be asked again.
@@ -203,10 +197,7 @@ impl<S: RowStore> Desk<S> {
         ensures lost { IfErr result IsLost }
         ensures leaves { LeavesQuery S.Meaning result self.old.store self.new.store self.old.work self.new.work }
     {
-        match self.store.load(alloc) {
-            Ok(library) => Ok(library),
-            Err(fault) => Err(fault),
-        }
+        self.store.load(alloc)
     }
 
     /// The stored runs in the order in which they were stored, and the settled marks. After NoMemory or Store, at 0, they
@@ -218,10 +209,7 @@ impl<S: RowStore> Desk<S> {
         ensures lost { IfErr result IsLost }
         ensures leaves { LeavesQuery S.Meaning result self.old.store self.new.store self.old.work self.new.work }
     {
-        match self.store.stored_runs(alloc) {
-            Ok(runs) => Ok(runs),
-            Err(fault) => Err(fault),
-        }
+        self.store.stored_runs(alloc)
     }
 
     /// The cards of a deck, or of `YANK$$$`. DeckUnknown, at 0, where no held deck has the name; after NoMemory or
@@ -284,9 +272,6 @@ impl<S: RowStore> Desk<S> {
         ensures leaves { LeavesQuery S.Meaning result self.old.store self.new.store self.old.work self.new.work }
     {
         let library = load_listed(&mut self.store, alloc, query)?;
-        match list(alloc, &library, query) {
-            Ok(text) => Ok(text),
-            Err(fault) => Err(fault),
-        }
+        list(alloc, &library, query)
     }
 }

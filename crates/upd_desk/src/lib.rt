@@ -2,16 +2,12 @@
 //!
 //! What the desk owes after a journal of arrivals and settlements stands in `specs/`, and here are laws of it
 //! and the desk, over any store of rows.
-//!
-//! Where clauses speak of both outcomes of a call, it stands in a `match` of two arms, so that each is a path of its
-//! own (docs/DECISIONS.md, D-56).
 #![tactic(auto)]
 
 pub mod arrival;
 mod arrive;
 pub mod desk;
 pub mod desk_laws;
-mod known_keys;
 mod library_queries;
 mod mark;
 mod outcome;
@@ -19,7 +15,6 @@ pub mod reply;
 mod reply_texts;
 mod reply_values;
 mod run_loading;
-mod settlement;
 pub mod trying;
 
 pub use arrival::Arrival;

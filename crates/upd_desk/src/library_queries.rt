@@ -40,23 +40,14 @@ pub(crate) fn load_listed<S: RowStore>(
     ensures leaves { OnlyReads S.Meaning result store.old store.new }
 {
     match query {
-        Query::Deck(name) => match store.load_deck_of(alloc, &DeckOf::Named(*name)) {
-            Ok(part) => Ok(part),
-            Err(fault) => Err(fault),
-        },
+        Query::Deck(name) => store.load_deck_of(alloc, &DeckOf::Named(*name)),
         Query::Card(card) => {
             if let Some(alone) = store.card_alone(alloc, *card) {
                 return Ok(alone);
             }
-            match store.load_deck_of(alloc, &DeckOf::Holding(*card)) {
-                Ok(part) => Ok(part),
-                Err(fault) => Err(fault),
-            }
+            store.load_deck_of(alloc, &DeckOf::Holding(*card))
         }
-        Query::Idents | Query::Yanks => match store.load_decks(alloc, &[]) {
-            Ok(head) => Ok(head),
-            Err(fault) => Err(fault),
-        },
+        Query::Idents | Query::Yanks => store.load_decks(alloc, &[]),
     }
 }
 

@@ -135,10 +135,7 @@ fn active_before<S: RowStore>(
     if mode == Mode::Quick && run.applied.compile.is_empty() {
         Ok(None)
     } else {
-        match store.load_active(alloc) {
-            Ok(before) => Ok(Some(before)),
-            Err(fault) => Err(fault),
-        }
+        Ok(Some(store.load_active(alloc)?))
     }
 }
 
@@ -174,10 +171,7 @@ fn compile_run(
     match before {
         Some(before) => {
             let after = cache.renew(&run.library, before)?;
-            match compile_active(alloc, &after, before, mode, &run.applied.compile) {
-                Ok(file) => Ok(file),
-                Err(fault) => Err(fault),
-            }
+            compile_active(alloc, &after, before, mode, &run.applied.compile)
         }
         None => Ok(CompileFile {
             bytes: Vec::new(alloc),

@@ -28,15 +28,9 @@ pub(crate) fn load_needed<S: RowStore>(
     ensures leaves { OnlyReads S.Meaning result store.old store.new }
 {
     if is_plain(run) {
-        match load_named(store, alloc, run) {
-            Ok(part) => Ok(part),
-            Err(fault) => Err(fault),
-        }
+        load_named(store, alloc, run)
     } else {
-        match store.load(alloc) {
-            Ok(library) => Ok(library),
-            Err(fault) => Err(fault),
-        }
+        store.load(alloc)
     }
 }
 
@@ -73,23 +67,14 @@ fn load_named<S: RowStore>(store: &mut S, alloc: Global, run: &Run<'_>) -> Resul
     let cards = cards_named(alloc, run)?;
     let homes = store.homes_of(alloc, &cards)?;
     if !homes.may_be_yanks {
-        return match store.load_decks(alloc, &homes.decks) {
-            Ok(part) => Ok(part),
-            Err(fault) => Err(fault),
-        };
+        return store.load_decks(alloc, &homes.decks);
     }
     let head = store.load_decks(alloc, &[])?;
     if any_names_yank_card(&cards, &head) {
-        match store.load(alloc) {
-            Ok(library) => Ok(library),
-            Err(fault) => Err(fault),
-        }
+        store.load(alloc)
     } else if homes.decks.is_empty() {
         Ok(head)
     } else {
-        match store.load_decks(alloc, &homes.decks) {
-            Ok(part) => Ok(part),
-            Err(fault) => Err(fault),
-        }
+        store.load_decks(alloc, &homes.decks)
     }
 }

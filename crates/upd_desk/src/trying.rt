@@ -53,10 +53,7 @@ fn reply_in(
             Ok(reply) => Ok(reply),
             Err(error) => Err(Fault::from(error)),
         },
-        Err(fault) => match refused(alloc, arrival, fault) {
-            Ok(outcome) => Ok(outcome.reply),
-            Err(fault) => Err(fault),
-        },
+        Err(fault) => Ok(refused(alloc, arrival, fault)?.reply),
     }
 }
 

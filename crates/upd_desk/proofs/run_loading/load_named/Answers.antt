@@ -1,10 +1,9 @@
 -- The decks of the cards that are named are loaded, or all where one is a yank card, which is seen without any deck.
-use Rattle.upd_desk.proofs.Common.{[], length, ◌≡◌, sym, ◌∙◌, refl, arith, nat_tests, keeps_still}
-use Rattle.upd_desk.proofs.LoadingLemmas.{all_loaded, head_read, homes_loaded, needed_read, needs_named, needs_seen, needs_yanks, no_ages}
-use Rattle.upd_desk.proofs.LoadingLemmas.{none_read, still_read, within}
+use Rattle.upd_desk.proofs.Common.{[], length, ◌≡◌, sym, ◌∙◌, refl, IfOk-weaker, arith, nat_tests, keeps_still}
+use Rattle.upd_desk.proofs.LoadingLemmas.{all_loaded, head_read, homes_loaded, needs_named, needs_seen, needs_yanks, no_ages}
+use Rattle.upd_desk.proofs.LoadingLemmas.{none_read, none_with_head, reads_needed, still_read, within}
 use Rattle.upd_desk.proofs.LookingLemmas.{memory_reads}
 use Rattle.upd_desk.proofs.QueryLemmas.{shown_there}
-use Rattle.upd_desk.proofs.run_loading.load_named.Goals.{in-Ok, in-Err}
 use Rattle.upd_desk.proofs.run_loading.load_named.Goals as goal
 
 pub returns-in_err-cards-clause-leaves : goal.returns-in_err-cards-clause-leaves
@@ -13,59 +12,43 @@ returns-in_err-cards-clause-leaves g c =
 
 pub returns-then-not-homes-clause-found : goal.returns-then-not-homes-clause-found
 returns-then-not-homes-clause-found g c honest =
-    elim c.match-load_decks.branch [
-      | in-Ok w ↦ rw w.result-is (λ l made rows shown shows.
-          let before = w.in-Ok.ensures.leaves.same.later.honest honest in
-          let there = shown_there c.args.store.now c.homes_of.new.self c.in_ok-homes.ensures.leaves.same before
-          (c.in_ok-homes.ensures.leaves.opens before) rows shown in
-          let homes = c.in_ok-homes.ensures.found before l made.sound made.whole rows shown shows in
-          homes_loaded c.args.run.now l w.in-Ok.part c.in_ok-cards.cards.items c.deref.result.now c.deref-then-not-homes.result.now
-          c.in_ok-homes.homes.decks.items (w.in-Ok.ensures.found honest l made.sound made.whole rows there shows) c.deref-then-not-homes.ensures.value
-          homes.decks c.deref.ensures.value (needs_named c.args.run.now l c.in_ok-cards.cards.items c.deref.result.now made.sound c.requires.plain
-          c.in_ok-cards.ensures.same c.deref.ensures.value (homes.yanks c.if-not-homes.true)))
-      | in-Err w ↦ rw w.result-is tt
-    ]
+    let before = c.load_decks.ensures.leaves.same.later.honest honest in
+    IfOk-weaker c.load_decks.result _ _ (λ part found l made rows shown shows.
+    let there = shown_there c.args.store.now c.homes_of.new.self c.in_ok-homes.ensures.leaves.same before
+    (c.in_ok-homes.ensures.leaves.opens before) rows shown in
+    let homes = c.in_ok-homes.ensures.found before l made.sound made.whole rows shown shows in
+    homes_loaded c.args.run.now l part c.in_ok-cards.cards.items c.deref.result.now c.deref-then-not-homes.result.now
+    c.in_ok-homes.homes.decks.items (found l made.sound made.whole rows there shows) c.deref-then-not-homes.ensures.value
+    homes.decks c.deref.ensures.value (needs_named c.args.run.now l c.in_ok-cards.cards.items c.deref.result.now made.sound c.requires.plain
+    c.in_ok-cards.ensures.same c.deref.ensures.value (homes.yanks c.if-not-homes.true))) (c.load_decks.ensures.found honest)
 
 pub returns-then-not-homes-clause-reads : goal.returns-then-not-homes-clause-reads
-returns-then-not-homes-clause-reads g c honest =
-    elim c.match-load_decks.branch [
-      | in-Ok w ↦ rw w.result-is (λ l made rows shown shows.
-          let before = w.in-Ok.ensures.leaves.same.later.honest honest in
-          let there = shown_there c.args.store.now c.homes_of.new.self c.in_ok-homes.ensures.leaves.same before
-          (c.in_ok-homes.ensures.leaves.opens before) rows shown in
-          let homes = c.in_ok-homes.ensures.found before l made.sound made.whole rows shown shows in
-          needed_read c.args.run.now l w.in-Ok.part _ _ _ made.sound (still_read _ _ c.in_ok-homes.ensures.leaves.unread) w.in-Ok.ensures.leaves.reads
-          (homes_loaded c.args.run.now l w.in-Ok.part c.in_ok-cards.cards.items c.deref.result.now c.deref-then-not-homes.result.now
-          c.in_ok-homes.homes.decks.items (w.in-Ok.ensures.found honest l made.sound made.whole rows there shows) c.deref-then-not-homes.ensures.value
-          homes.decks c.deref.ensures.value (needs_named c.args.run.now l c.in_ok-cards.cards.items c.deref.result.now made.sound c.requires.plain
-          c.in_ok-cards.ensures.same c.deref.ensures.value (homes.yanks c.if-not-homes.true))))
-      | in-Err w ↦ rw w.result-is tt
-    ]
+returns-then-not-homes-clause-reads g c =
+    reads_needed g.S.Meaning c.args.run.now c.load_decks.result c.args.store.now c.homes_of.new.self c.load_decks.new.self
+    (λ honest l made rows shown shows. still_read _ _ c.in_ok-homes.ensures.leaves.unread) c.load_decks.ensures.leaves.reads
+    (returns-then-not-homes-clause-found g c)
 
-pub returns-in-Ok-load-clause-found : goal.returns-in-Ok-load-clause-found
-returns-in-Ok-load-clause-found g c honest l made rows shown shows =
-    let seen = c.in-Ok-load.ensures.leaves.same.later.honest honest in
+pub returns-then-any_names_yank_card-clause-found : goal.returns-then-any_names_yank_card-clause-found
+returns-then-any_names_yank_card-clause-found g c honest =
+    let seen = c.load.ensures.leaves.same.later.honest honest in
     let before = c.in_ok-head.ensures.leaves.same.later.honest seen in
+    IfOk-weaker c.load.result _ _ (λ library found l made rows shown shows.
     let there = shown_there c.args.store.now c.homes_of.new.self c.in_ok-homes.ensures.leaves.same before
     (c.in_ok-homes.ensures.leaves.opens before) rows shown in
     let head = c.in_ok-head.ensures.found seen l made.sound made.whole rows there shows in
     let still = shown_there c.homes_of.new.self c.load_decks-2.new.self c.in_ok-head.ensures.leaves.same seen
     (c.in_ok-head.ensures.leaves.opens seen) rows there in
-    all_loaded c.args.run.now l c.in-Ok-load.library (c.in-Ok-load.ensures.found honest l made.sound made.whole rows still shows)
+    all_loaded c.args.run.now l library (found l made.sound made.whole rows still shows)
     (needs_yanks c.args.run.now l c.in_ok-head.head c.in_ok-cards.cards.items c.deref-2.result.now made.sound head c.in_ok-cards.ensures.same
-    c.deref-2.ensures.value (sym c.any_names_yank_card.ensures ∙ c.if-any_names_yank_card.true))
+    c.deref-2.ensures.value (sym c.any_names_yank_card.ensures ∙ c.if-any_names_yank_card.true))) (c.load.ensures.found honest)
 
-pub returns-in-Ok-load-clause-reads : goal.returns-in-Ok-load-clause-reads
-returns-in-Ok-load-clause-reads g c honest l made rows shown shows =
-    let seen = c.in-Ok-load.ensures.leaves.same.later.honest honest in
-    let before = c.in_ok-head.ensures.leaves.same.later.honest seen in
-    let there = shown_there c.args.store.now c.homes_of.new.self c.in_ok-homes.ensures.leaves.same before
-    (c.in_ok-homes.ensures.leaves.opens before) rows shown in
-    let head = c.in_ok-head.ensures.found seen l made.sound made.whole rows there shows in
-    needed_read c.args.run.now l c.in-Ok-load.library _ _ _ made.sound
-    (head_read _ _ _ c.in_ok-homes.ensures.leaves.unread
-    (none_read _ _ l c.in_ok-head.head made.sound head c.in_ok-head.ensures.leaves.reads)) c.in-Ok-load.ensures.leaves.reads
-    (returns-in-Ok-load-clause-found g c honest l made rows shown shows)
+pub returns-then-any_names_yank_card-clause-reads : goal.returns-then-any_names_yank_card-clause-reads
+returns-then-any_names_yank_card-clause-reads g c =
+    reads_needed g.S.Meaning c.args.run.now c.load.result c.args.store.now c.load_decks-2.new.self c.load.new.self
+    (λ honest. none_with_head c.in_ok-head.head c.args.store.now c.homes_of.new.self c.load_decks-2.new.self c.in_ok-homes.ensures.leaves.same
+    c.in_ok-homes.ensures.leaves.opens c.in_ok-homes.ensures.leaves.unread c.in_ok-head.ensures.leaves.same.later.honest c.in_ok-head.ensures.found
+    c.in_ok-head.ensures.leaves.reads (c.load.ensures.leaves.same.later.honest honest)) c.load.ensures.leaves.reads
+    (returns-then-any_names_yank_card-clause-found g c)
 
 pub returns-then-is_empty-clause-found : goal.returns-then-is_empty-clause-found
 returns-then-is_empty-clause-found g c seen l made rows shown shows =
@@ -90,31 +73,29 @@ returns-then-is_empty-clause-reads g c seen l made rows shown shows =
     within _ _ _ (head_read _ _ _ c.in_ok-homes.ensures.leaves.unread
     (none_read _ _ l c.in_ok-head.head made.sound head c.in_ok-head.ensures.leaves.reads))
 
-pub returns-in-Ok-load_decks-clause-found : goal.returns-in-Ok-load_decks-clause-found
-returns-in-Ok-load_decks-clause-found g c honest l made rows shown shows =
-    let seen = c.in-Ok-load_decks.ensures.leaves.same.later.honest honest in
+pub returns-clause-found : goal.returns-clause-found
+returns-clause-found g c honest =
+    let seen = c.load_decks-else-is_empty.ensures.leaves.same.later.honest honest in
     let before = c.in_ok-head.ensures.leaves.same.later.honest seen in
+    IfOk-weaker c.load_decks-else-is_empty.result _ _ (λ part found l made rows shown shows.
     let there = shown_there c.args.store.now c.homes_of.new.self c.in_ok-homes.ensures.leaves.same before
     (c.in_ok-homes.ensures.leaves.opens before) rows shown in
     let head = c.in_ok-head.ensures.found seen l made.sound made.whole rows there shows in
     let still = shown_there c.homes_of.new.self c.load_decks-2.new.self c.in_ok-head.ensures.leaves.same seen
     (c.in_ok-head.ensures.leaves.opens seen) rows there in
     let homes = c.in_ok-homes.ensures.found before l made.sound made.whole rows shown shows in
-    homes_loaded c.args.run.now l c.in-Ok-load_decks.part c.in_ok-cards.cards.items c.deref.result.now c.deref-else-is_empty.result.now
-    c.in_ok-homes.homes.decks.items (c.in-Ok-load_decks.ensures.found honest l made.sound made.whole rows still shows) c.deref-else-is_empty.ensures.value
+    homes_loaded c.args.run.now l part c.in_ok-cards.cards.items c.deref.result.now c.deref-else-is_empty.result.now
+    c.in_ok-homes.homes.decks.items (found l made.sound made.whole rows still shows) c.deref-else-is_empty.ensures.value
     homes.decks c.deref.ensures.value
     (needs_seen c.args.run.now l c.in_ok-head.head c.in_ok-cards.cards.items
     c.deref-2.result.now made.sound c.requires.plain head c.in_ok-cards.ensures.same c.deref-2.ensures.value
-    (sym c.any_names_yank_card.ensures ∙ c.if-any_names_yank_card.false))
+    (sym c.any_names_yank_card.ensures ∙ c.if-any_names_yank_card.false))) (c.load_decks-else-is_empty.ensures.found honest)
 
-pub returns-in-Ok-load_decks-clause-reads : goal.returns-in-Ok-load_decks-clause-reads
-returns-in-Ok-load_decks-clause-reads g c honest l made rows shown shows =
-    let seen = c.in-Ok-load_decks.ensures.leaves.same.later.honest honest in
-    let before = c.in_ok-head.ensures.leaves.same.later.honest seen in
-    let there = shown_there c.args.store.now c.homes_of.new.self c.in_ok-homes.ensures.leaves.same before
-    (c.in_ok-homes.ensures.leaves.opens before) rows shown in
-    let head = c.in_ok-head.ensures.found seen l made.sound made.whole rows there shows in
-    needed_read c.args.run.now l c.in-Ok-load_decks.part _ _ _ made.sound
-    (head_read _ _ _ c.in_ok-homes.ensures.leaves.unread
-    (none_read _ _ l c.in_ok-head.head made.sound head c.in_ok-head.ensures.leaves.reads)) c.in-Ok-load_decks.ensures.leaves.reads
-    (returns-in-Ok-load_decks-clause-found g c honest l made rows shown shows)
+pub returns-clause-reads : goal.returns-clause-reads
+returns-clause-reads g c =
+    reads_needed g.S.Meaning c.args.run.now c.load_decks-else-is_empty.result c.args.store.now c.load_decks-2.new.self
+    c.load_decks-else-is_empty.new.self
+    (λ honest. none_with_head c.in_ok-head.head c.args.store.now c.homes_of.new.self c.load_decks-2.new.self c.in_ok-homes.ensures.leaves.same
+    c.in_ok-homes.ensures.leaves.opens c.in_ok-homes.ensures.leaves.unread c.in_ok-head.ensures.leaves.same.later.honest c.in_ok-head.ensures.found
+    c.in_ok-head.ensures.leaves.reads (c.load_decks-else-is_empty.ensures.leaves.same.later.honest honest)) c.load_decks-else-is_empty.ensures.leaves.reads
+    (returns-clause-found g c)

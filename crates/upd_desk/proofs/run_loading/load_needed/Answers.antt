@@ -1,14 +1,15 @@
 -- A run that yanks or purges needs all decks.
-use Rattle.upd_desk.proofs.Common.{arith, sym, ◌∙◌}
-use Rattle.upd_desk.proofs.LoadingLemmas.{all_loaded, needed_read, needs_all}
+use Rattle.upd_desk.proofs.Common.{IfOk-weaker, arith, sym, ◌∙◌}
+use Rattle.upd_desk.proofs.LoadingLemmas.{all_loaded, needs_all, reads_needed}
 use Rattle.upd_desk.proofs.run_loading.load_needed.Goals as goal
 
-pub returns-in-Ok-load-clause-found : goal.returns-in-Ok-load-clause-found
-returns-in-Ok-load-clause-found g c honest l made rows shown shows =
-    all_loaded c.args.run.now l c.in-Ok-load.library (c.in-Ok-load.ensures.found honest l made.sound made.whole rows shown shows)
-    (needs_all c.args.run.now l (sym c.is_plain.ensures ∙ c.if-is_plain.false))
+pub returns-else-is_plain-clause-found : goal.returns-else-is_plain-clause-found
+returns-else-is_plain-clause-found g c honest =
+    IfOk-weaker c.load.result _ _ (λ library found l made rows shown shows.
+    all_loaded c.args.run.now l library (found l made.sound made.whole rows shown shows)
+    (needs_all c.args.run.now l (sym c.is_plain.ensures ∙ c.if-is_plain.false))) (c.load.ensures.found honest)
 
-pub returns-in-Ok-load-clause-reads : goal.returns-in-Ok-load-clause-reads
-returns-in-Ok-load-clause-reads g c honest l made rows shown shows =
-    needed_read c.args.run.now l c.in-Ok-load.library _ _ _ made.sound (omega arith) c.in-Ok-load.ensures.leaves.reads
-    (returns-in-Ok-load-clause-found g c honest l made rows shown shows)
+pub returns-else-is_plain-clause-reads : goal.returns-else-is_plain-clause-reads
+returns-else-is_plain-clause-reads g c =
+    reads_needed g.S.Meaning c.args.run.now c.load.result c.args.store.now c.args.store.now c.load.new.self
+    (λ honest l made rows shown shows. omega arith) c.load.ensures.leaves.reads (returns-else-is_plain-clause-found g c)
