@@ -236,20 +236,16 @@ fn write_refusal<W: Write>(alloc: Global, fault: Fault, output: &mut W) -> Resul
     ensures reports { ReportsRun (Err fault) result (W.contents output.old) (W.contents output.new) }
     ensures status { IfOk result (λ status. (status ≡ 0) ⊎ (status ≡ 1)) }
 {
-    match fault_answer(alloc, fault) {
-        Ok(text) => write_line(output, &text, REFUSED),
-        Err(untold) => Err(untold),
-    }
+    let text = fault_answer(alloc, fault)?;
+    write_line(output, &text, REFUSED)
 }
 
 /// Writes a text and LF, and returns the exit status that is given.
 fn write_line<W: Write>(output: &mut W, text: &[u8], status: u8) -> Result<u8, Fault>
     ensures { Writes status (text.now ++ 10 ∷ []) result (W.contents output.old) (W.contents output.new) }
 {
-    match write_parts_out(output, &[text, b"\n"]) {
-        Ok(()) => Ok(status),
-        Err(fault) => Err(fault),
-    }
+    write_parts_out(output, &[text, b"\n"])?;
+    Ok(status)
 }
 
 /// Settles a site's runs up to a number, and the site's mark goes to the output as a line. Nothing is allocated after
@@ -266,10 +262,8 @@ pub(crate) fn settle<S: RowStore, W: Write>(
     ensures status { IfOk result (λ status. status ≡ 0) }
     ensures silent { IfErr result (λ fault. exit_status fault.kind ≡ 1 → output.new ≡ output.old) }
 {
-    match desk.settle_site(alloc, site, number) {
-        Ok(mark) => write_mark(output, site, mark),
-        Err(fault) => Err(fault),
-    }
+    let mark = desk.settle_site(alloc, site, number)?;
+    write_mark(output, site, mark)
 }
 
 /// Writes the text of a mark, and LF.
