@@ -25,15 +25,18 @@ fn ends(rt: &HostRuntime, fails_at: usize, kind: ErrorKind) -> Result<(), Fail> 
     is_answer(&ask(rt, FULL, &mut run)?, (3, "", "upd: Read (32) at 0\n"))
 }
 
-/// A read that is out of memory is a failed read as any other.
+/// A read that is out of memory is a failed read as any other: the first, one within the run, and its last.
 #[test]
 fn a_failed_read_ends_the_run(rt: HostRuntime) -> Result<(), Fail> {
-    for fails_at in 1..=INSERTION.len() {
+    for fails_at in [1, 20, INSERTION.len()] {
         ends(&rt, fails_at, ErrorKind::Other)?;
         ends(&rt, fails_at, ErrorKind::OutOfMemory)?;
     }
     Ok(())
 }
+
+const ABOUT_ALL: &str =
+    "Keeps a library of program source in a file, and changes it by runs from many sites\n";
 
 /// Each command, and how its help begins.
 const ABOUT: &[(&str, &str)] = &[
@@ -70,27 +73,19 @@ const ABOUT: &[(&str, &str)] = &[
     ("explain", "Explains a fault"),
 ];
 
-#[test]
-fn each_command_has_its_own_help(rt: HostRuntime) -> Result<(), Fail> {
-    for (name, front) in ABOUT {
-        let found = ask(&rt, &[*name, "--help"], &mut b"".as_slice())?;
-        begins(&found, (0, *front, ""))?;
-    }
-    Ok(())
-}
-
-/// `help` and these words write what the words of the option write.
-fn is_help(rt: &HostRuntime, words: &[&str], option: &[&str]) -> Result<(), Fail> {
+/// `help` and these words write what the words of the option write, which begins like this.
+fn is_help(rt: &HostRuntime, words: &[&str], option: &[&str], front: &str) -> Result<(), Fail> {
     let wanted = ask(rt, option, &mut b"".as_slice())?;
+    begins(&wanted, (0, front, ""))?;
     let text = std::str::from_utf8(&wanted.output)?;
     answers(rt, words, "", (0, text, ""))
 }
 
 #[test]
-fn help_is_a_command_too(rt: HostRuntime) -> Result<(), Fail> {
-    is_help(&rt, &["help"], &["--help"])?;
-    for (name, _) in ABOUT {
-        is_help(&rt, &["help", *name], &[*name, "--help"])?;
+fn each_command_has_its_own_help(rt: HostRuntime) -> Result<(), Fail> {
+    is_help(&rt, &["help"], &["--help"], ABOUT_ALL)?;
+    for (name, front) in ABOUT {
+        is_help(&rt, &["help", *name], &[*name, "--help"], front)?;
     }
     Ok(())
 }
@@ -184,13 +179,10 @@ For more information, try '--help'.
 
 #[test]
 fn long_answers_begin_as_they_should(rt: HostRuntime) -> Result<(), Fail> {
-    const ABOUT_ALL: &str =
-        "Keeps a library of program source in a file, and changes it by runs from many sites\n";
     const NONSENSE: &str = "error: unrecognized subcommand 'nonsense'\n";
     const NO_COMMAND: &str = "error: 'upd' requires a subcommand but one was not provided\n";
     /// Words without an input, the exit status, and how the text on the output or the fault stream begins.
     const FRONTS: &[(&[&str], u8, &str, &str)] = &[
-        (&["--help"], 0, ABOUT_ALL, ""),
         (&["help", "nonsense"], 2, "", NONSENSE),
         (&[], 2, "", NO_COMMAND),
     ];

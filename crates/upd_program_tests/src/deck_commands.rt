@@ -5,16 +5,16 @@ use crate::file_sessions::{NO_LIBRARY, Step, Wanted, session_without_file};
 use std::test::Fail;
 use upd_testkit::check::{holds, same};
 
-/// A common deck, a deck that calls it, and a correction of the latter.
-const FIRST: Step<'static> = Step::Accepts(
-    "1",
-    "quick",
-    "*COMDECK C,NOPROP\n      X = 1\n*DECK A\nONE\n*CALL C\nTWO\nTHREE\n",
-);
-
-const SECOND: Step<'static> = Step::Accepts("2", "quick", "*IDENT S\n*DELETE A.4\nDEUX\n");
-
-const IDENTS: &str = "1 C comdeck held\n2 A deck held\n3 S set held\n";
+/// A common deck, a deck that calls it, and a correction of the latter; and a used number.
+const SENT: Step<'static> = Step::Sends(&[
+    (
+        "1",
+        "quick",
+        "*COMDECK C,NOPROP\n      X = 1\n*DECK A\nONE\n*CALL C\nTWO\nTHREE\n",
+    ),
+    ("2", "quick", "*IDENT S\n*DELETE A.4\nDEUX\n"),
+    ("7", "quick", "*/ used\n"),
+]);
 
 const NO_IDENT: Wanted<'static> = (1, "", "upd: IdentUnknown (11) at 0\n");
 
@@ -23,11 +23,8 @@ const EDITED: &str = "*DECK A\nUN\n*CALL C\nDEUX\nTHREE\nFOUR\n*DECK B\nNEW\n";
 
 #[test]
 fn decks_are_edited(rt: HostRuntime) -> Result<(), Fail> {
-    /// The text of deck A before and after the second.
-    const OLD: &str = "*DECK A\nONE\n*CALL C\nTWO\nTHREE\n";
-    const TEXT: &str = "*DECK A\nONE\n*CALL C\nDEUX\nTHREE\n";
     const UNKNOWN: Wanted<'static> = (1, "", "upd: DeckUnknown (12) at 0\n");
-    /// The compile file of the library, which is the source of deck A.
+    /// The source of deck A, with the common deck that it calls.
     const SOURCE: &str = "\
 ONE                                                                              A             2
       X = 1                                                                      C             2
@@ -39,7 +36,6 @@ THREE                                                                           
     /// The old text of deck A with another line, and the run that changes it.
     const NEW: &str = "*DECK A\nUN\n*CALL C\nTWO\nTHREE\n";
     const CHANGES: &str = "*IDENT T\n*DELETE A.2\nUN\n";
-    const BAD_NAME: Wanted<'static> = (1, "", "upd: BadName (5) at 0\n");
     const REFUSED: &str = "AHEAD\n*DECK A\n*/ C\n\x01\n*INSERT A.2\n*DECK  C\n";
     const REFUSALS: &str = "NameTaken 0:0 this name is in use\n\
 NoDeck 1:1 no deck begins before this line\n\
@@ -53,62 +49,36 @@ FirstCard 6:1 the first card of a deck can't be changed\n";
     const NOWHERE: &str =
         "{\"at\":1,\"fault\":9,\"mode\":\"quick\",\"name\":\"TextNowhere\",\"run\":1,\"site\":\"TRY\",\
 \"state\":\"refused\"}\n";
-    const BAD_MODE: &str = "{\"at\":0,\"fault\":25,\"name\":\"BadMode\"}\n";
-    const GOOD: &str = "*IDENT T\n*DELETE A.2\n";
     const DELTE: &str = "*IDENT T\n*INSERT A.1\n*DELTE A.2\n";
     const WARNED: Wanted<'static> = (0, TRIED, "upd: 3: *DELTE is text, not *DELETE\n");
     const MEETS: &str = "*IDENT T\n*DELETE S.1\n";
     const MET: Wanted<'static> = (0, TRIED, "upd: 2: S.1 came after A and is deleted\n");
     const EDITS: &[Step<'_>] = &[
-        Step::New("the text of a deck is its active cards (rule 10.61.1)"),
-        FIRST,
-        SECOND,
-        Step::Writes("text", &["A"], TEXT),
+        Step::New("the text of a deck is its active cards, and may add it (rule 10.61.1)"),
+        SENT,
         Step::Writes("text", &["C"], "*COMDECK C,NOPROP\n      X = 1\n"),
-        Step::Answers("text", &["B"], "", UNKNOWN),
+        Step::Writes("text", &["A"], "*DECK A\nONE\n*CALL C\nDEUX\nTHREE\n"),
         Step::Answers("text", &["S"], "", UNKNOWN),
-        Step::Answers("text", &["YANK$$$"], "", UNKNOWN),
+        Step::Writes(
+            "text-at",
+            &["A", "A"],
+            "*DECK A\nONE\n*CALL C\nTWO\nTHREE\n",
+        ),
         Step::Shows("the source of a deck follows its calls (rule 10.67)"),
         Step::Writes("source", &["A"], SOURCE),
-        Step::Writes("compile", &[], SOURCE),
-        Step::Writes("source", &["C"], ""),
-        Step::Answers("source", &["B"], "", UNKNOWN),
         Step::Shows("all refusals of a text are reported (rule 10.64)"),
         Step::Answers("correct", &["S"], REFUSED, (1, "", REFUSALS)),
-        Step::Writes("idents", &[], IDENTS),
         Step::Shows("a run that is tried is not stored (rule 10.66)"),
-        Step::Answers("try", &["quick"], GOOD, (0, TRIED, "")),
-        Step::Answers("try", &["quick"], GOOD, (0, TRIED, "")),
         Step::Answers("try", &["quick"], DELTE, WARNED),
         Step::Answers("try", &["quick"], "HELLO\n", (1, NOWHERE, "")),
-        Step::Answers("try", &["slow"], "HELLO\n", (1, BAD_MODE, "")),
         Step::Answers("try-at", &["quick", "A"], MEETS, MET),
         Step::Answers("try-at", &["quick", "Q"], "HELLO\n", NO_IDENT),
-        Step::Writes("idents", &[], IDENTS),
-        Step::Shows("a correction run is written, and changes nothing by itself (rule 10.63.2)"),
-        Step::Answers("correct", &["T"], EDITED, (0, RUN, "")),
-        Step::Writes("idents", &[], IDENTS),
-        Step::Shows("a correction run leads decks to their texts (rule 10.63.1)"),
-        Step::Accepts("3", "quick", RUN),
-        Step::Writes("text", &["A"], "*DECK A\nUN\n*CALL C\nDEUX\nTHREE\nFOUR\n"),
-        Step::Writes("text", &["B"], "*DECK B\nNEW\n"),
-        Step::Answers("correct", &["U"], EDITED, (0, "", "")),
-        Step::New(
-            "a text that was taken before S is corrected, and what S did stays (rule 10.63.3)",
-        ),
-        FIRST,
-        SECOND,
-        Step::Writes("text-at", &["A", "A"], OLD),
-        Step::Writes("text-at", &["A", "S"], TEXT),
-        Step::Answers("text-at", &["B", "A"], "", UNKNOWN),
-        Step::Answers("correct-at", &["T", "Q"], NEW, NO_IDENT),
-        Step::Answers("correct-at", &["T", "a"], NEW, BAD_NAME),
+        Step::Shows("a text of before S is corrected, and what S did stays (rule 10.63.3)"),
         Step::Answers("correct-at", &["T", "A"], NEW, (0, CHANGES, "")),
-        Step::Accepts("3", "quick", CHANGES),
-        Step::Writes("text", &["A"], "*DECK A\nUN\n*CALL C\nDEUX\nTHREE\n"),
-        Step::New("the text of a deck adds it to an empty library (rule 10.61.1)"),
-        Step::Accepts("1", "quick", TEXT),
-        Step::Writes("text", &["A"], TEXT),
+        Step::Shows("a correction run leads decks to their texts (rules 10.63.1 and 10.63.2)"),
+        Step::Answers("correct", &["T"], EDITED, (0, RUN, "")),
+        Step::Accepts("3", "quick", RUN),
+        Step::Answers("correct", &["U"], EDITED, (0, "", "")),
     ];
     session_without_file(&rt, "edited", EDITS)
 }
@@ -130,20 +100,13 @@ fn a_deck_that_stays_is_reported(rt: HostRuntime) -> Result<(), Fail> {
     const YANK_BOTH: &str = "*IDENT Z\n*YANK S,NEWD\n";
     const STEPS: &[Step<'_>] = &[
         Step::New("the stored run introduced both (rule 10.68.4)"),
-        Step::Accepts("1", "quick", "*DECK A\nONE\n"),
-        Step::Accepts("2", "quick", BOTH),
+        Step::Sends(&[("1", "quick", "*DECK A\nONE\n"), ("2", "quick", BOTH)]),
         Step::Answers("try", &["quick"], YANK, (0, TRIED, STAYS)),
         Step::Answers("try", &["quick"], "*PURGE S\n", (0, PURGED, STAYS_OF_PURGE)),
         Step::Answers("try", &["quick"], YANK_BOTH, (0, TRIED, "")),
         Step::Shows("the run is settled, so that it is not known (rule 10.68.4)"),
         Step::Settles("LYON", "2", "2"),
         Step::Answers("try", &["quick"], YANK, (0, TRIED, MAY_STAY)),
-        Step::Answers("try", &["quick"], YANK_BOTH, (0, TRIED, "")),
-        Step::New("the stored run introduced only the set (rule 10.68.4)"),
-        Step::Accepts("1", "quick", "*DECK A\nONE\n"),
-        Step::Accepts("2", "quick", "*IDENT S\n*INSERT A.2\nTWO\n"),
-        Step::Accepts("3", "quick", "*DECK NEWD\nLINE\n"),
-        Step::Answers("try", &["quick"], YANK, (0, TRIED, "")),
     ];
     session_without_file(&rt, "staying", STEPS)
 }
@@ -162,47 +125,32 @@ fn decks_are_edited_in_parts(rt: HostRuntime) -> Result<(), Fail> {
 \"state\":\"accepted\"}\n";
     const BAD_NUMBER: Wanted<'static> = (1, "", "upd: BadNumber (24) at 0\n");
     const BAD_SITE: Wanted<'static> = (1, "", "upd: BadSite (23) at 0\n");
-    const BAD_WORD: Wanted<'static> = (1, "", "upd: BadMode (25) at 0\n");
     const LONG_NAME: Wanted<'static> = (
         1,
         "",
         "BadName 0:0 the name of the sets has at most 8 bytes, since a number follows it\n",
     );
-    const SETTLED: Wanted<'static> = (1, "", "NumberUsed 0:0 number 1 is used or settled\n");
-    const USED: Wanted<'static> = (1, "", "NumberUsed 0:0 number 2 is used or settled\n");
     const SEVENTH_USED: Wanted<'static> = (1, "", "NumberUsed 0:0 number 7 is used or settled\n");
     const THIRD: &[&str] = &["T", "LYON", "3", "quick"];
     const FIFTH: &[&str] = &["T", "LYON", "5", "quick"];
     const LONG: &[&str] = &["ABCDEFGHI", "LYON", "3", "quick"];
     const EDITS_IN_PARTS: &[Step<'_>] = &[
         Step::New("a spool leads decks to their texts (rule 10.63.5)"),
-        FIRST,
-        SECOND,
-        Step::Answers(PARTS, &["T", "LYON", "0", "quick"], EDITED, BAD_NUMBER),
-        Step::Answers(PARTS, &["T", "lyon", "3", "quick"], EDITED, BAD_SITE),
+        SENT,
         Step::Answers(PARTS, &["T", "lyon", "3", "quick"], "", BAD_SITE),
-        Step::Answers(PARTS, &["T", "LYON", "3", "slow"], EDITED, BAD_WORD),
         Step::Answers(PARTS, LONG, EDITED, LONG_NAME),
-        Step::Settles("LYON", "1", "1"),
-        Step::Answers(PARTS, &["T", "LYON", "1", "quick"], EDITED, SETTLED),
-        Step::Answers(PARTS, &["T", "LYON", "2", "quick"], EDITED, USED),
-        Step::Answers(PARTS, &["T", "LYON", "2", "slow"], EDITED, BAD_WORD),
-        Step::Answers(PARTS, THIRD, EDITED, (0, SPOOL, "")),
-        Step::Writes("idents", &[], IDENTS),
-        Step::Answers("spool", &[], SPOOL, (0, SPOOLED, "")),
-        Step::Answers(PARTS, &["U", "LYON", "3", "quick"], EDITED, (0, "", "")),
-        Step::New("no frame is numbered past the greatest (rule 10.63.7)"),
+        Step::Shows("no frame is numbered past the greatest (rule 10.63.7)"),
         Step::AnswersLong(PARTS, LAST, ("*DECK B\n", "NEW\n", 2_100), BAD_NUMBER),
         Step::Shows("a text in three parts gets no number that is used (rule 10.63.7)"),
-        Step::Accepts("7", "quick", "*/ used\n"),
         Step::AnswersLong(PARTS, FIFTH, ("*DECK B\n", "NEW\n", 4_100), SEVENTH_USED),
-        Step::New("rows that can't be read are Store, whatever meets them (rule 11.1)"),
-        FIRST,
+        Step::Shows("a spool leads decks to their texts (rule 10.63.5)"),
+        Step::Answers(PARTS, THIRD, EDITED, (0, SPOOL, "")),
+        Step::Answers("spool", &[], SPOOL, (0, SPOOLED, "")),
+        Step::Answers(PARTS, &["U", "LYON", "3", "quick"], EDITED, (0, "", "")),
+        Step::Shows("rows that can't be read are Store, whatever meets them (rule 11.1)"),
         Step::Changes("UPDATE cards SET deck = -1"),
         Step::Answers(PARTS, THIRD, EDITED, NO_LIBRARY),
-        Step::Answers("correct", &["T"], EDITED, NO_LIBRARY),
         Step::Answers("list", &["A"], "", NO_LIBRARY),
-        Step::Answers("compile", &[], "", NO_LIBRARY),
     ];
     session_without_file(&rt, "parts", EDITS_IN_PARTS)
 }
@@ -215,17 +163,6 @@ fn a_part_may_be_the_greatest(rt: HostRuntime) -> Result<(), Fail> {
     let text = format!(in alloc; "*DECK B\n{lines}{}\n", "X".repeat(alloc, 69)?.as_str())?;
     let frame = format!(in alloc; "RUN LYON 999999999 quick 65536\n*IDENT T1\n{text}\n")?;
     answers_of(&rt, &file, PARTS, LAST, &text, (0, &frame, ""))?;
-    remove(&rt, &file)
-}
-
-/// Number 7 is used. The last of three frames after it is there.
-#[test]
-fn the_numbers_of_all_parts_are_free(rt: HostRuntime) -> Result<(), Fail> {
-    let (alloc, file) = (rt.alloc(), library(&rt, "used")?);
-    let text = format!(in alloc; "*DECK B\n{}", "NEW\n".repeat(alloc, 4_100)?.as_str())?;
-    accepts(&rt, &file, "7", "quick", "*/ used\n")?;
-    let found = ask_of(&rt, &file, PARTS, &["T", "LYON", "8", "quick"], &text)?;
-    contains(&found, (0, "\nRUN LYON 10 quick ", ""))?;
     remove(&rt, &file)
 }
 
@@ -244,23 +181,19 @@ A A.4               A           THREE
         "IDENT Y set\nDECK YANK$$$\nA Y.1 *YANK X\n set X\nRUN LYON 3 normal # take it back\n";
     const LOOKS: &[Step<'_>] = &[
         Step::New("a library is looked at (rules 10.70 and 10.73)"),
-        Step::Accepts("1", "quick", "*DECK A\nONE\nTWO\nTHREE\n"),
-        Step::Accepts("2", "quick", "*IDENT X\n*DELETE A.2\nNEW\n"),
+        Step::Sends(&[
+            ("1", "quick", "*DECK A\nONE\nTWO\nTHREE\n"),
+            ("2", "quick", "*IDENT X\n*DELETE A.2\nNEW\n*/ second\n"),
+        ]),
         Step::Writes("blame", &["A"], BLAME),
-        Step::Accepts("3", "quick", "*IDENT Y\n*YANK X\n"),
-        Step::Writes("show", &["X"], REPORT),
-        Step::Answers("show", &["Q"], "", NO_IDENT),
-        Step::New(
-            "a run's message is shown while the runs of all idents of a name are stored (rule 10.73)",
-        ),
-        Step::Accepts("1", "quick", "*/begin\n*DECK A\nONE\n"),
-        Step::Accepts("2", "quick", "*IDENT X\n*DELETE A.2\n*/ second\n"),
-        Step::Writes("show", &["X"], "IDENT X set\nDECK A\noff A.2 ONE\n"),
         Step::Accepts("3", "normal", "*/ take it back\n*IDENT Y\n*YANK X\n"),
+        Step::Writes("show", &["X"], REPORT),
         Step::Writes("show", &["Y"], INTRODUCED),
-        Step::Accepts("4", "quick", "*/ purged\n*PURGE Y\n"),
-        Step::Answers("show", &["Y"], "", NO_IDENT),
-        Step::Accepts("5", "quick", "*/ again\n*IDENT Y\n"),
+        Step::Shows("a run's message is shown while the runs of a name are stored (rule 10.73)"),
+        Step::Sends(&[
+            ("4", "quick", "*PURGE Y\n"),
+            ("5", "quick", "*/ again\n*IDENT Y\n"),
+        ]),
         Step::Writes("show", &["Y"], "IDENT Y set\nRUN LYON 5 quick # again\n"),
         Step::Settles("LYON", "3", "3"),
         Step::Writes("show", &["Y"], "IDENT Y set\n"),

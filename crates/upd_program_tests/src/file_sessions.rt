@@ -1,7 +1,9 @@
 //! What is done with a library in a file, step by step, and what each step has to give.
-use crate::console::{accepts, answers, answers_of, fresh, is_gone, library, remove, without_log};
+use crate::console::{
+    accepts, answers, answers_of, ask_of, fresh, is_gone, library, remove, without_log,
+};
 use crate::file_changes::{change, change_log};
-use crate::refusals::COMMANDS;
+use crate::refusals::{COMMANDS, Command, WAYS};
 use crate::table_rows::has_rows;
 use sqlite_disk::Unknown;
 use std::alloc::Global;
@@ -36,6 +38,8 @@ pub enum Step<'a> {
     IsGone,
     /// The run of LYON with this number arrives in this mode and is accepted.
     Accepts(&'a str, &'a str, &'a str),
+    /// Runs of LYON, each with its number and mode, arrive in one spool and are accepted.
+    Sends(&'a [(&'a str, &'a str, &'a str)]),
     /// This site settles its runs up to this number, and its mark is this then.
     Settles(&'a str, &'a str, &'a str),
     /// A command, with these words after the file and no input, has this output only.
@@ -46,6 +50,8 @@ pub enum Step<'a> {
     Answers(&'a str, &'a [&'a str], &'a str, Wanted<'a>),
     /// All commands that need a library have this answer.
     AllAnswer(Wanted<'a>),
+    /// A command for each way to open a file has this answer.
+    WaysAnswer(Wanted<'a>),
     /// A statement changes the tables past the program.
     Changes(&'a str),
     /// A statement changes the tables past the program, and stays in the log.
@@ -120,8 +126,13 @@ fn examines(rt: &HostRuntime, file: &str, text: &str) -> Result<(), Fail> {
     answers_of(rt, file, "examine", &[], "", (0, &output, ""))
 }
 
-fn all_answer(rt: &HostRuntime, file: &str, wanted: Wanted<'_>) -> Result<(), Fail> {
-    for (name, words) in COMMANDS {
+fn each_answers(
+    rt: &HostRuntime,
+    file: &str,
+    commands: &[Command],
+    wanted: Wanted<'_>,
+) -> Result<(), Fail> {
+    for (name, words) in commands {
         answers_of(rt, file, name, words, "", wanted)?;
     }
     Ok(())
@@ -163,6 +174,18 @@ fn settles(
     answers(rt, &["settle", file, site, number], "", (0, &output, ""))
 }
 
+/// Runs of LYON arrive in one spool and are accepted.
+fn sends(rt: &HostRuntime, file: &str, runs: &[(&str, &str, &str)]) -> Result<(), Fail> {
+    let mut spool = String::new(rt.alloc());
+    for (number, mode, run) in runs {
+        write!(spool, "RUN LYON {number} {mode} {}\n{run}\n", run.len())?;
+    }
+    let found = ask_of(rt, file, "spool", &[], &spool)?;
+    same("the status of a spool", found.status, 0)?;
+    let replies = std::str::from_utf8(&found.output)?;
+    holds(replies, !replies.contains("refused"))
+}
+
 /// A new library is in place of what is at a path.
 fn begin(rt: &HostRuntime, file: &str) -> Result<(), Fail> {
     remove(rt, file)?;
@@ -180,6 +203,7 @@ fn take(rt: &HostRuntime, file: &str, step: Step<'_>) -> Result<(), Fail> {
         Step::IsGone => is_gone(rt, file),
         Step::Settles(site, number, mark) => settles(rt, file, (site, number, mark)),
         Step::Accepts(number, mode, run) => accepts(rt, file, number, mode, run),
+        Step::Sends(runs) => sends(rt, file, runs),
         Step::Writes(name, words, output) => answers_of(rt, file, name, words, "", (0, output, "")),
         Step::Answers(name, words, input, wanted) => {
             answers_of(rt, file, name, words, input, wanted)
@@ -187,7 +211,8 @@ fn take(rt: &HostRuntime, file: &str, step: Step<'_>) -> Result<(), Fail> {
         Step::AnswersLong(name, words, input, wanted) => {
             answers_long(rt, file, name, words, input, wanted)
         }
-        Step::AllAnswer(wanted) => all_answer(rt, file, wanted),
+        Step::AllAnswer(wanted) => each_answers(rt, file, COMMANDS, wanted),
+        Step::WaysAnswer(wanted) => each_answers(rt, file, WAYS, wanted),
         Step::Changes(sql) => change(rt, file, sql),
         Step::Logs(sql) => change_log(rt, file, sql),
         Step::LosesLog => without_log(rt, file),

@@ -23,8 +23,10 @@ Comment 3:1 a run would drop this line as a comment\n";
     const AHEAD: &str = "AHEAD\n*DECK A\n*/ C\n";
     const STEPS: &[Step<'_>] = &[
         Step::New("a library corrects a deck that it lists"),
-        Step::Accepts("1", "quick", "*DECK A\nONE\nTWO\nTHREE\n"),
-        Step::Accepts("2", "quick", "*IDENT S\n*DELETE A.3\nDEUX\n"),
+        Step::Sends(&[
+            ("1", "quick", "*DECK A\nONE\nTWO\nTHREE\n"),
+            ("2", "quick", "*IDENT S\n*DELETE A.3\nDEUX\n"),
+        ]),
         Step::Writes("list", &["A"], LISTING),
         CORRECTED,
         Step::Accepts("3", "quick", RUN),
@@ -45,7 +47,7 @@ Comment 3:1 a run would drop this line as a comment\n";
 }
 
 /// A file with this text is refused at this line.
-fn is_neither(rt: &HostRuntime, file: &str, text: &str, line: &str) -> Result<(), Fail> {
+fn is_neither(rt: &HostRuntime, file: &str, text: &[u8], line: &str) -> Result<(), Fail> {
     fs::write(rt, file, text)?;
     let why = format!(in rt.alloc();
         "NotListing {line}:1 FILE is not a library, and this line of it is not one of a deck's listing\n"
@@ -66,9 +68,9 @@ fn a_file_that_is_neither_is_refused_at_its_line(rt: HostRuntime) -> Result<(), 
     ];
     let file = fresh(&rt, "neither")?;
     for (text, line) in NEITHER {
-        is_neither(&rt, &file, text, line)?;
+        is_neither(&rt, &file, text.as_bytes(), line)?;
     }
-    is_neither(&rt, &file, &"\n".repeat(rt.alloc(), 5_000_025)?, "1")?;
+    is_neither(&rt, &file, &vec![in rt.alloc(); b'\n'; 5_000_025]?, "1")?;
     remove(&rt, &file)
 }
 

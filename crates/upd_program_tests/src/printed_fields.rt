@@ -19,27 +19,19 @@ runs ?[31m?L 1 has a reply that no run gets
 A A.1               A           *DECK A
 I A.2               X           ?[31m?E\t2
 ";
-    const SHOWN: &str = "IDENT A deck\nDECK A\nA A.1 *DECK A\nI A.2 ?[31m?E\t2\n";
     const STEPS: &[Step<'_>] = &[
         Step::New("a site of a changed row is printed without control bytes"),
         Step::Accepts("1", "quick", DECK),
         RED_SITE,
-        Step::Writes("runs", &[], "?[31m?L 1 quick accepted A X\n"),
         Step::Writes("sites", &[], "?[31m?L 0 1 2 132\n"),
         Step::Answers("examine", &[], "", (1, "", FOUND)),
-        Step::New("a reply of a changed row is printed without control bytes"),
-        Step::Accepts("1", "quick", DECK),
+        Step::Shows("a reply and a text of changed rows are printed without control bytes"),
         Step::Changes(RED_REPLY),
-        Step::Writes("runs", &[], "LYON 1 quick accepted ?[31mX?Y\n"),
-        Step::New("a text of a changed row is printed without control bytes"),
-        Step::Accepts("1", "quick", DECK),
         Step::Changes(RED_TEXT),
+        Step::Writes("runs", &[], "?[31m?L 1 quick accepted ?[31mX?Y\n"),
         Step::Writes("blame", &["A"], BLAME),
-        Step::Writes("show", &["A"], SHOWN),
         Step::Writes("show", &["X"], "IDENT X set\nDECK A\noff A.2 ?[31m?E\t2\n"),
-        Step::IsUnsound("cards A.2 has a text that no line has\n"),
-        Step::New("a name of a changed row is read as one or not at all"),
-        Step::Accepts("1", "quick", DECK),
+        Step::Shows("a name of a changed row is read as one or not at all"),
         Step::Changes("UPDATE idents SET name = '\x1b[31m' WHERE age = 2"),
         Step::Answers("idents", &[], "", (3, "", "upd: Store (29) at 0\n")),
     ];

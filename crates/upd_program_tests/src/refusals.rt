@@ -1,7 +1,6 @@
 //! What is refused, in which order, and on which stream. Rules 10.47 to 10.52.
 use crate::console::{answers, answers_of, ask, fresh, is_answer, is_gone, remove};
 use crate::file_sessions::{NO_LIBRARY, SILENT, Step, Wanted, has_bytes, session_without_file};
-use crate::site_commands::SECOND_SCHEMA;
 use std::fs;
 use std::io::ErrorKind;
 use std::test::Fail;
@@ -33,8 +32,21 @@ fn operands_are_checked_before_the_file(rt: HostRuntime) -> Result<(), Fail> {
 
 const LYON: &[&str] = &["LYON", "1", "full"];
 
-/// The commands that need a library, with the words after their file. A copy has no folder, so that none is made.
-pub const COMMANDS: &[(&str, &[&str])] = &[
+/// A command's name, and the words after its file.
+pub type Command = (&'static str, &'static [&'static str]);
+
+/// A command for each way in which the file of a library is opened. A copy has no folder, so that none is made.
+pub const WAYS: &[Command] = &[
+    ("run", LYON),
+    ("settle", &["LYON", "1"]),
+    ("idents", &[]),
+    ("backup", &["upd-no-folder/copy.db"]),
+    ("replay", &[]),
+    ("migrate", &[]),
+];
+
+/// The commands that need a library.
+pub const COMMANDS: &[Command] = &[
     ("run", LYON),
     ("run-at", &["LYON", "1", "full", "A"]),
     ("settle", &["LYON", "1"]),
@@ -106,7 +118,6 @@ fn another_file_is_refused_and_stays(rt: HostRuntime) -> Result<(), Fail> {
 fn refusals_are_reported(rt: HostRuntime) -> Result<(), Fail> {
     const OTHER: Wanted<'static> = (3, "", "upd: Store (29) at 2\n");
     const BAD_SITE: &str = "{\"at\":0,\"fault\":23,\"name\":\"BadSite\"}\n";
-    const BAD_NUMBER: &str = "{\"at\":0,\"fault\":24,\"name\":\"BadNumber\"}\n";
     const BAD_MODE: &str = "{\"at\":0,\"fault\":25,\"name\":\"BadMode\"}\n";
     const RUN_LONG: &str = "{\"at\":0,\"fault\":1,\"name\":\"RunLong\"}\n";
     const NO_DECK: Wanted<'static> = (1, "", "upd: DeckUnknown (12) at 0\n");
@@ -117,22 +128,21 @@ fn refusals_are_reported(rt: HostRuntime) -> Result<(), Fail> {
         Step::AllAnswer(NO_LIBRARY),
         Step::IsGone,
         Step::New(
-            "a file of another version is refused at that version, whatever is asked of it (rule 10.48.1)",
-        ),
-        SECOND_SCHEMA,
-        Step::AllAnswer(OTHER),
-        Step::Answers("init", &[], "", OTHER),
-        Step::New(
             "a run is refused by admission checks, or as too long, on the output (rule 10.50)",
         ),
         Step::Answers("run", &["lyon", "1", "full"], "", (1, BAD_SITE, "")),
-        Step::Answers("run", &["LYON", "0", "full"], "", (1, BAD_NUMBER, "")),
         Step::Answers("run", &["LYON", "1", "slow"], "", (1, BAD_MODE, "")),
         Step::AnswersLong("run", LYON, ("", "T", 65_537), (1, RUN_LONG, "")),
-        Step::New("a query of an unknown name is refused (rule 10.51.1)"),
+        Step::Shows("a query of an unknown name is refused (rule 10.51.1)"),
         Step::Answers("list", &["NOPE"], "", NO_DECK),
         Step::Answers("history", &["A.2"], "", NO_CARD),
         Step::Answers("settle", &["lyon", "1"], "", NO_SITE),
+        Step::Shows(
+            "another version is refused at it, though it is only in the log (rule 10.48.1)",
+        ),
+        Step::Logs("UPDATE meta SET v = 2"),
+        Step::WaysAnswer(OTHER),
+        Step::Answers("init", &[], "", OTHER),
     ];
     session_without_file(&rt, "refused", STEPS)
 }
