@@ -1,6 +1,6 @@
 //! What is said of a path that is examined, whatever is there. Rules 10.87 to 10.91.
 use crate::console::{fresh, is_gone, library, remove};
-use crate::file_sessions::{SILENT, Step, session_without_file, stays, take_all};
+use crate::file_sessions::{Step, session_without_file, stays, take_all};
 use crate::lone_logs::logged;
 use crate::site_commands::{NO_MARKS, SECOND_SCHEMA};
 use std::fs;
@@ -14,8 +14,6 @@ const IS_EMPTY: Step<'static> = Step::IsSound(EMPTY_LINE, false);
 
 const LOGGED: Step<'static> = Step::Logs("INSERT INTO settled (site, mark) VALUES ('LYON', 3)");
 
-const ONE_CARD: Step<'static> = Step::Accepts("1", "full", "*DECK A\nONE\n");
-
 const LOG_LINES: &str = "\
 log: keep FILE-wal with the file, it may have commits that the file lacks
 sound: decks 0, cards 0, runs 0, replies 0";
@@ -27,37 +25,27 @@ states A.2 (active) is not stored, and the library has it
 states A.2 (not active) is stored, and the library does not have it
 ";
     const MARK_ONE: &str = "INSERT INTO settled (site, mark) VALUES ('LYON', 1)";
-    const MARK_LINE: &str = "runs LYON 1 is at or below the mark 1\n";
     const LOGGED_LINES: &str = "\
 log: keep FILE-wal with the file, it may have commits that the file lacks
 runs LYON 1 is at or below the mark 1
 ";
-    /// What is found in libraries, and what the command writes of it.
+    const OFF: &str =
+        "DELETE FROM settled; UPDATE states SET active = 0 WHERE ident = 'A' AND num = 2";
+    /// What is found in a library, and what the command writes of it.
     const LIBRARIES: &[Step<'_>] = &[
         Step::New("a sound library is counted (rule 10.89.2)"),
         IS_EMPTY,
-        Step::Accepts("1", "full", "*DECK A\nONE\n*IDENT X\n*INSERT A.1\nTWO\n"),
-        Step::Accepts("2", "full", "*COMDECK B\nONE\n"),
+        Step::Sends(&[
+            ("1", "full", "*DECK A\nONE\n*IDENT X\n*INSERT A.1\nTWO\n"),
+            ("2", "full", "*COMDECK B\nONE\n"),
+        ]),
         Step::IsSound("sound: decks 2, cards 5, runs 2, replies 584", false),
-        Step::New("a log with commits is reported and kept (rule 10.91)"),
-        LOGGED,
-        Step::IsSound(EMPTY_LINE, true),
-        Step::IsSound(EMPTY_LINE, true),
-        Step::New("the command reports a log (rule 10.91)"),
-        LOGGED,
-        Step::Examines(LOG_LINES),
-        Step::New("a status changed by hand is found (rule 10.90)"),
-        ONE_CARD,
-        Step::Changes("UPDATE states SET active = 0 WHERE num = 2"),
-        Step::IsUnsound(STATUS_LINES),
-        Step::New("the command reports findings (rule 10.90)"),
-        ONE_CARD,
-        Step::Changes(MARK_ONE),
-        Step::Answers("examine", &[], "", (1, "", MARK_LINE)),
-        Step::New("findings follow the line of a log (rule 10.91)"),
-        ONE_CARD,
+        Step::Shows("findings follow the line of a log (rules 10.90 and 10.91)"),
         Step::Logs(MARK_ONE),
         Step::Answers("examine", &[], "", (1, "", LOGGED_LINES)),
+        Step::Shows("a status changed by hand is found (rule 10.90)"),
+        Step::Changes(OFF),
+        Step::Answers("examine", &[], "", (1, "", STATUS_LINES)),
     ];
     session_without_file(&rt, "examined-libraries", LIBRARIES)
 }
@@ -74,12 +62,12 @@ fn other_files_are_named(rt: HostRuntime) -> Result<(), Fail> {
         "DROP TABLE meta; DROP TABLE idents; DROP TABLE cards; DROP TABLE entries; DROP TABLE targets; \
 DROP TABLE states; DROP TABLE counts; DROP TABLE runs; DROP TABLE settled; \
 CREATE TABLE note (id INTEGER PRIMARY KEY) STRICT";
+    const OTHER_TABLE: &str =
+        "DELETE FROM meta WHERE k = 'x'; CREATE TABLE other (k INTEGER PRIMARY KEY) STRICT";
     /// Files that are no library of the current schema.
     const OTHERS: &[Step<'_>] = &[
         Step::NoFile("the command writes what was found (rule 10.88)"),
         Step::Answers("examine", &[], "", (3, "", NO_FILE_LINE)),
-        Step::Answers("init", &[], "", SILENT),
-        Step::Examines(EMPTY_LINE),
         Step::NoFile("what is no database is named (rule 10.88)"),
         Step::File("an empty file", b""),
         Step::Is(Situation::Empty),
@@ -87,29 +75,20 @@ CREATE TABLE note (id INTEGER PRIMARY KEY) STRICT";
         Step::Is(Situation::NotSqlite),
         Step::File("a long text", b"*DECK A\nLONGER THAN A HEADER\n"),
         Step::Is(Situation::NotSqlite),
-        Step::New("schemas are distinguished (rule 10.88)"),
-        Step::Changes("UPDATE meta SET v = 12"),
-        Step::Answers("idents", &[], "", (3, "", "upd: Store (29) at 12\n")),
-        Step::Answers("migrate", &[], "", (3, "", "upd: Store (29) at 12\n")),
+        Step::New("a newer schema that is only in the log is named (rules 10.88 and 10.91)"),
+        Step::Logs("UPDATE meta SET v = 12"),
         Step::Is(Situation::NewerSchema),
-        Step::Changes("UPDATE meta SET v = 3"),
-        IS_EMPTY,
-        Step::Changes("CREATE TABLE other (k INTEGER PRIMARY KEY) STRICT"),
+        Step::Answers("migrate", &[], "", (3, "", "upd: Store (29) at 12\n")),
+        Step::Shows("a row beside the version is found (rule 10.88)"),
+        Step::Changes("UPDATE meta SET v = 3; INSERT INTO meta (k, v) VALUES ('x', 1)"),
+        Step::Answers("examine", &[], "", (3, "", UNREADABLE_LINE)),
+        Step::Shows("another table is found (rule 10.88)"),
+        Step::Changes(OTHER_TABLE),
         Step::Is(Situation::OtherTables),
         Step::New("an older schema is named (rule 10.88)"),
         NO_MARKS,
         SECOND_SCHEMA,
-        Step::Is(Situation::OlderSchema),
         Step::Answers("examine", &[], "", (3, "", OLDER_LINE)),
-        Step::New("a row beside the version is found (rule 10.88)"),
-        Step::Changes("INSERT INTO meta (k, v) VALUES ('x', 1)"),
-        Step::Is(Situation::Unreadable),
-        Step::Answers("examine", &[], "", (3, "", UNREADABLE_LINE)),
-        Step::Changes("DELETE FROM meta WHERE k = 'x'"),
-        IS_EMPTY,
-        Step::New("a version that is only in the log is found (rule 10.91)"),
-        Step::Logs("UPDATE meta SET v = 12"),
-        Step::Is(Situation::NewerSchema),
         Step::New("another database is named (rule 10.88)"),
         Step::Changes(OTHER),
         Step::Is(Situation::NotLibrary),
@@ -118,20 +97,10 @@ CREATE TABLE note (id INTEGER PRIMARY KEY) STRICT";
     take_all(&rt, "/dev/null", &[Step::Is(Situation::NotRegular)])
 }
 
-#[test]
-fn an_examination_changes_no_byte(rt: HostRuntime) -> Result<(), Fail> {
-    const SOUND: Step<'_> = Step::IsSound("sound: decks 1, cards 2, runs 1, replies 192", false);
-    let file = library(&rt, "untouched")?;
-    take_all(&rt, &file, &[ONE_CARD])?;
-    stays(&rt, &file, &[SOUND])?;
-    remove(&rt, &file)
-}
-
-/// The size, the log and the first bytes are those of the file, and not of a link to it. Rule 10.88.
+/// The size, the log and the first bytes are those of the file, and not of a link to it. No byte changes. Rule 10.88.
 #[test]
 fn a_file_is_examined_by_a_link(rt: HostRuntime) -> Result<(), Fail> {
     const STEPS: &[Step<'_>] = &[
-        Step::IsSound(EMPTY_LINE, true),
         Step::Examines(LOG_LINES),
         Step::File("a text beside a log with commits", b"*DECK A\n"),
         Step::Is(Situation::NotSqlite),
@@ -142,7 +111,7 @@ fn a_file_is_examined_by_a_link(rt: HostRuntime) -> Result<(), Fail> {
     symlink(&rt, file.as_str(), link.as_str())?;
     let beside_link = format!(in rt.alloc(); "{link}-wal")?;
     fs::write(&rt, beside_link.as_str(), &vec![in rt.alloc(); 1u8; 600]?)?;
-    take_all(&rt, &link, &[IS_EMPTY])?;
+    stays(&rt, &link, &[IS_EMPTY])?;
     take_all(&rt, &file, &[LOGGED])?;
     take_all(&rt, &link, STEPS)?;
     remove(&rt, &link)?;
@@ -203,10 +172,7 @@ upd: the file or its log is damaged, or another program wrote to one: copy both;
 restore a backup, or use `sqlite3 COPY .dump`
 upd: pages with a wrong sum: 2
 ";
-    const STEPS: &[Step<'_>] = &[
-        Step::Is(Situation::Damaged),
-        Step::Answers("examine", &[], "", (3, "", LINES)),
-    ];
+    const STEPS: &[Step<'_>] = &[Step::Answers("examine", &[], "", (3, "", LINES))];
     let file = library(&rt, "damaged")?;
     damage(&rt, &file)?;
     take_all(&rt, &file, STEPS)?;

@@ -1,7 +1,7 @@
 //! What a command leaves in the tables of a library of two sites, with a stored refusal and marks.
 use crate::console::{answers, ask_of, fresh, library, remove};
-use crate::file_sessions::{SILENT, Step, session_without_file, take_all};
-use crate::refusals::COMMANDS;
+use crate::file_sessions::{SILENT, Step, take_all};
+use crate::refusals::WAYS;
 use crate::served_address::serves;
 use std::test::Fail;
 
@@ -60,95 +60,69 @@ states|A|1|1\nstates|A|2|1\nstates|A|3|1\nstates|A|4|1\nstates|X|1|0\nstates|Y|1
 targets|Y|1|0|0|2|0\n",
 );
 
-#[test]
-fn rows_are_kept(rt: HostRuntime) -> Result<(), Fail> {
-    const MIGRATED: Step<'static> = Step::Answers("migrate", &[], "", SILENT);
-    const FIRST_SCHEMA: &str =
-        "DROP TABLE settled; DROP TABLE states; DROP TABLE counts; UPDATE meta SET v = 1";
-    /// The marks are lost with their table, and are set again.
-    const STEPS: &[Step<'_>] = &[
-        Step::New("an examination changes no row (rule 10.87)"),
-        SENT,
-        SETTLED,
-        OSLO_SETTLED,
-        YANKED,
-        Step::Examines("sound: decks 1, cards 6, runs 4, replies 375"),
-        ROWS,
-        Step::Shows("a migration from the second schema keeps all rows (rule 10.49)"),
-        Step::Changes("DROP TABLE settled; UPDATE meta SET v = 2"),
-        MIGRATED,
-        SETTLED,
-        OSLO_SETTLED,
-        ROWS,
-        Step::Shows("a migration from the first schema keeps all rows (rule 10.49)"),
-        Step::Changes(FIRST_SCHEMA),
-        MIGRATED,
-        SETTLED,
-        OSLO_SETTLED,
-        ROWS,
-    ];
-    session_without_file(&rt, "rows", STEPS)
-}
-
 /// A command is asked over a text of deck A, and its answer is not looked at.
 fn is_asked(rt: &HostRuntime, file: &str, name: &str, words: &[&str]) -> Result<(), Fail> {
     ask_of(rt, file, name, words, "*DECK A\nTWO\n")?;
     Ok(())
 }
 
-/// Here all commands that need a library change nothing, but for servers, which would wait for a client.
+/// What of these commands could change something is refused.
+fn are_asked(rt: &HostRuntime, file: &str) -> Result<(), Fail> {
+    is_asked(rt, file, "run", &["LYON", "2", "full"])?;
+    is_asked(rt, file, "try", &["full"])?;
+    is_asked(rt, file, "init", &[])?;
+    for (name, words) in WAYS {
+        is_asked(rt, file, name, words)?;
+    }
+    Ok(())
+}
+
+/// A copy that this command makes has all rows of the library, which keeps them.
+fn is_copied(rt: &HostRuntime, file: &str, command: &str) -> Result<(), Fail> {
+    let copy = fresh(rt, "all-rows")?;
+    answers(rt, &[command, file, &copy], "", SILENT)?;
+    take_all(rt, &copy, &[ROWS])?;
+    remove(rt, &copy)
+}
+
 #[test]
-fn questions_and_refusals_change_no_row(rt: HostRuntime) -> Result<(), Fail> {
-    /// More commands that change nothing, with the words after their file.
-    const ASKED: &[(&str, &[&str])] = &[
-        ("run", &["LYON", "2", "full"]),
-        ("run", &["lyon", "5", "full"]),
-        ("settle", &["LYON", "0"]),
-        ("init", &[]),
-    ];
+fn questions_refusals_and_copies_change_no_row(rt: HostRuntime) -> Result<(), Fail> {
     let file = library(&rt, "asked")?;
     take_all(&rt, &file, &[SENT, SETTLED, OSLO_SETTLED, YANKED])?;
-    for (name, words) in ASKED {
-        is_asked(&rt, &file, name, words)?;
-    }
-    for (name, words) in COMMANDS {
-        if !name.starts_with("serve") {
-            is_asked(&rt, &file, name, words)?;
-        }
-    }
+    are_asked(&rt, &file)?;
+    is_copied(&rt, &file, "backup")?;
+    is_copied(&rt, &file, "compact")?;
     take_all(&rt, &file, &[ROWS])?;
     remove(&rt, &file)
 }
 
-/// A copy that this command makes has all rows of the library, which keeps them.
-fn is_copied(rt: &HostRuntime, command: &str) -> Result<(), Fail> {
-    let (file, copy) = (library(rt, "copied")?, fresh(rt, "all-rows")?);
-    take_all(rt, &file, &[SENT, SETTLED, OSLO_SETTLED, YANKED])?;
-    answers(rt, &[command, &file, &copy], "", SILENT)?;
-    take_all(rt, &file, &[ROWS])?;
-    take_all(rt, &copy, &[ROWS])?;
-    remove(rt, &copy)?;
-    remove(rt, &file)
-}
-
+/// Run 3 is sent over HTTP. Afterwards its reply is stored beside the others, and is repeated. A migration from the
+/// first schema keeps all rows (rule 10.49), but for marks, whose table it makes; an examination changes none (10.87).
 #[test]
-fn copies_have_all_rows_and_change_none(rt: HostRuntime) -> Result<(), Fail> {
-    is_copied(&rt, "backup")?;
-    is_copied(&rt, "compact")
-}
-
-/// Run 3 is sent over HTTP. Afterwards its reply is stored beside the others, and is repeated.
-#[test]
-fn a_run_over_http_is_in_the_file_afterwards(rt: HostRuntime) -> Result<(), Fail> {
+fn rows_of_runs_over_http_are_kept(rt: HostRuntime) -> Result<(), Fail> {
     const POST: &str =
         "POST /sites/LYON/runs/3/quick HTTP/1.1\r\nContent-Length: 17\r\n\r\n*IDENT Y\n*YANK X\n";
     const ANSWER: &str =
         "HTTP/1.1 200 OK\r\nContent-Type: application/json\r\nContent-Length: 95\r\nConnection: close\r\n\r\n\
 {\"compile\":\"\",\"idents\":[\"Y\"],\"lines\":0,\"mode\":\"quick\",\"run\":3,\"site\":\"LYON\",\
 \"state\":\"accepted\"}";
+    const FIRST_SCHEMA: Step<'static> = Step::Changes(
+        "DROP TABLE settled; DROP TABLE states; DROP TABLE counts; UPDATE meta SET v = 1",
+    );
+    const MIGRATED: Step<'static> = Step::Answers("migrate", &[], "", SILENT);
+    const SOUND: Step<'static> = Step::Examines("sound: decks 1, cards 6, runs 4, replies 375");
     let file = library(&rt, "posted")?;
-    take_all(&rt, &file, &[SENT, SETTLED, OSLO_SETTLED])?;
+    take_all(&rt, &file, &[SENT])?;
     serves(&rt, &file, POST, ANSWER)?;
-    take_all(&rt, &file, &[ROWS, YANKED])?;
+    let steps = [
+        YANKED,
+        FIRST_SCHEMA,
+        MIGRATED,
+        SETTLED,
+        OSLO_SETTLED,
+        SOUND,
+        ROWS,
+    ];
+    take_all(&rt, &file, &steps)?;
     remove(&rt, &file)
 }

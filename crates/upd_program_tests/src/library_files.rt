@@ -13,42 +13,28 @@ use upd_testkit::check::holds;
 
 #[test]
 fn the_file_is_the_library(rt: HostRuntime) -> Result<(), Fail> {
-    const ONE_DECK: Step<'static> = Step::Writes("idents", &[], "1 A deck held\n");
     const REPLY: &str =
         "{\"compile\":\"\",\"idents\":[\"A\"],\"lines\":0,\"mode\":\"quick\",\"run\":1,\"site\":\"LYON\",\
 \"state\":\"accepted\"}\n";
-    const FRAME: &str = "RUN LYON 1 quick 12\n*DECK A\nONE\n\n";
-    /// Such a frame before another, which ends too early.
+    /// A frame before another, which ends too early.
     const CUT_FRAMES: &str = "RUN LYON 1 quick 12\n*DECK A\nONE\n\nRUN";
     const CUT: Wanted<'static> = (1, REPLY, "upd: CutFrame (31) at 2\n");
     const SETTLED: &str = "{\"at\":0,\"fault\":27,\"name\":\"Settled\"}\n";
     const STEPS: &[Step<'_>] = &[
-        Step::New("the file without its log is the library"),
+        Step::New("the file without its log has what a run and a migration did"),
+        Step::Accepts("9", "full", "*DECK B\nONE\n"),
         Step::LosesLog,
-        Step::Writes("idents", &[], ""),
-        Step::Accepts("1", "full", "*DECK A\nONE\n"),
-        Step::LosesLog,
-        ONE_DECK,
         NO_MARKS,
         SECOND_SCHEMA,
         Step::Writes("migrate", &[], ""),
         Step::LosesLog,
-        ONE_DECK,
-        Step::New("the file without its log has the runs of a spool"),
-        Step::Answers("spool", &[], FRAME, (0, REPLY, "")),
-        Step::LosesLog,
-        ONE_DECK,
-        Step::New("the file without its log has the runs before the cut of a spool"),
+        Step::Shows("the file without its log has the runs before the cut of a spool, and a mark"),
         Step::Answers("spool", &[], CUT_FRAMES, CUT),
         Step::LosesLog,
-        ONE_DECK,
-        Step::New("the file without its log has a mark"),
         Step::Settles("LYON", "1", "1"),
         Step::LosesLog,
         Step::Answers("run", &["LYON", "1", "quick"], "", (1, SETTLED, "")),
-        Step::New("changes only in the log are read (rule 10.48.1)"),
-        Step::Logs("UPDATE meta SET v = 2"),
-        Step::Answers("idents", &[], "", (3, "", "upd: Store (29) at 2\n")),
+        Step::Writes("idents", &[], "1 B deck held\n2 A deck held\n"),
         Step::NoFile("at a path without a file"),
         Step::File("an empty file is no library, and stays (rule 10.48.1)", b""),
         Step::AllAnswer(NO_LIBRARY),
@@ -81,10 +67,10 @@ fn take_in_use<D: Disk + Drop>(
 #[test]
 fn a_library_in_use_is_refused(rt: HostRuntime) -> Result<(), Fail> {
     const IN_USE: &[Step<'_>] = &[Step::AllAnswer(NO_LIBRARY), Step::Is(Situation::InUse)];
-    const AFTERWARDS: &[Step<'_>] = &[
-        Step::Writes("idents", &[], ""),
-        Step::IsSound("sound: decks 0, cards 0, runs 0, replies 0", false),
-    ];
+    const AFTERWARDS: &[Step<'_>] = &[Step::IsSound(
+        "sound: decks 0, cards 0, runs 0, replies 0",
+        false,
+    )];
     let file = library(&rt, "used")?;
     take_in_use(&rt, &file, connected(&rt, &file)?, IN_USE)?;
     take_all(&rt, &file, AFTERWARDS)?;
@@ -122,12 +108,12 @@ fn place_of(bytes: &[u8], text: &[u8]) -> Option<usize> {
     (0..bytes.len()).find(|&at| bytes[at..].starts_with(text))
 }
 
-/// The pages of a new library have sums, so that a card's text with one changed bit is answered by no command.
+/// The pages of a new library have sums, so that a card's text with one changed bit is answered in no way.
 #[test]
-fn a_changed_byte_of_a_card_is_found_by_all_commands(rt: HostRuntime) -> Result<(), Fail> {
+fn a_changed_byte_of_a_card_is_found(rt: HostRuntime) -> Result<(), Fail> {
     let file = library(&rt, "summed")?;
     accepts(&rt, &file, "1", "quick", "*DECK A\nUNCHANGED\n")?;
     change_byte(&rt, &file, b"UNCHANGED")?;
-    take_all(&rt, &file, &[Step::AllAnswer(NO_LIBRARY)])?;
+    take_all(&rt, &file, &[Step::WaysAnswer(NO_LIBRARY)])?;
     remove(&rt, &file)
 }

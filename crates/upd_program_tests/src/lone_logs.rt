@@ -90,11 +90,9 @@ fn a_library_is_made_over_what_init_leaves(rt: HostRuntime) -> Result<(), Fail> 
         Step::File("a library is made over an empty file", b""),
         MADE,
         Step::IsSound(LINE, false),
-        Step::New("after a killed init"),
         Step::File("a library is made over one byte of 0", b"\0"),
         MADE,
         Step::IsSound(LINE, false),
-        Step::New("beside the log of a library"),
         Step::File("no library is made over somebody's letter", b"x"),
         Step::Answers("init", &[], "", NO_LIBRARY),
         Step::Has(b"x"),
@@ -134,13 +132,12 @@ const JOURNAL: &[u8] = b"\xd9\xd5\x05\xf9\x20\xa1\x63\xd7";
 /// A journal that is empty, or begins with a 0, holds nothing of a transaction.
 #[test]
 fn a_library_is_made_beside_an_ended_journal(rt: HostRuntime) -> Result<(), Fail> {
-    const LINE: &str = "sound: decks 0, cards 0, runs 0, replies 0";
     let file = fresh(&rt, "played")?;
     let journal = format!(in rt.alloc(); "{file}-journal")?;
     for bytes in [b"".as_slice(), b"\0\xd5".as_slice()] {
         remove(&rt, &file)?;
         fs::write(&rt, journal.as_str(), bytes)?;
-        take_all(&rt, &file, &[MADE, Step::IsSound(LINE, false)])?;
+        take_all(&rt, &file, &[MADE])?;
     }
     fs::remove_file(&rt, journal.as_str())?;
     remove(&rt, &file)

@@ -175,21 +175,12 @@ fn leave_folder(rt: &HostRuntime, path: &str) -> Result<(), Fail> {
 
 /// The socket that a server has left is replaced by the next one's, and so is the folder of one that was killed.
 #[test]
-fn a_socket_is_for_its_owner(rt: HostRuntime) -> Result<(), Fail> {
-    let file = library(&rt, "local")?;
-    let path = format!(in rt.alloc(); "{file}.socket")?;
-    is_served_at(&rt, &file, &path)?;
-    leave_folder(&rt, &path)?;
-    is_served_at(&rt, &file, &path)?;
-    fs::remove_file(&rt, path.as_str())?;
-    remove(&rt, &file)
-}
-
-#[test]
 fn a_path_of_100_bytes_is_served(rt: HostRuntime) -> Result<(), Fail> {
-    let file = library(&rt, "long-path")?;
+    let file = library(&rt, "local")?;
     let rest = "x".repeat(rt.alloc(), 100_usize.saturating_sub(file.len()))?;
     let path = format!(in rt.alloc(); "{file}{rest}")?;
+    is_served_at(&rt, &file, &path)?;
+    leave_folder(&rt, &path)?;
     is_served_at(&rt, &file, &path)?;
     fs::remove_file(&rt, path.as_str())?;
     remove(&rt, &file)
@@ -206,7 +197,6 @@ fn is_unserved(rt: &HostRuntime, file: &str, path: &str, why: &str) -> Result<()
 fn a_socket_replaces_nothing_else(rt: HostRuntime) -> Result<(), Fail> {
     let file = library(&rt, "taken")?;
     is_unserved(&rt, &file, &file, "something else is there")?;
-    is_unserved(&rt, &file, "/", "something else is there")?;
     let path = format!(in rt.alloc(); "{file}.socket")?;
     let _listener = UnixListener::bind(&rt, path.as_str())?;
     is_unserved(&rt, &file, &path, "another server may use it")?;
