@@ -18,13 +18,11 @@ pub fn add_deck(spool: &mut String, number: u32) -> Result<(), Fail> {
     add_frame(spool, number, run.as_str())
 }
 
-/// Deck A, eight decks after it, and the purge of these.
+/// Deck A, a deck after it, and the purge of this.
 fn purged_decks(alloc: Global) -> Result<String, Fail> {
     let mut spool = String::new(alloc);
     add_frame(&mut spool, 1, "*DECK A\nONE\n")?;
-    for number in 2..10 {
-        add_deck(&mut spool, number)?;
-    }
+    add_deck(&mut spool, 2)?;
     add_frame(&mut spool, 10, "*PURGE B2,*\n")?;
     Ok(spool)
 }
@@ -35,16 +33,15 @@ pub fn is_sent(rt: &HostRuntime, file: &str, spool: &str) -> Result<(), Fail> {
     same("the status", found.status, 0)
 }
 
-/// Each of the cards goes, with its entry: more than 32,000 row changes.
+/// Each of the cards goes, with its entry: more than 4,000 row changes.
 #[test]
-fn sixteen_thousand_cards_are_purged_in_one_commit(rt: HostRuntime) -> Result<(), Fail> {
+fn two_thousand_cards_are_purged_in_one_commit(rt: HostRuntime) -> Result<(), Fail> {
     /// The site settles its runs, and deck A is left.
     const LEFT: &[Step<'static>] = &[
         Step::Settles("LYON", "10", "10"),
         Step::HasRows(
             "cards|A|1|1|0|*DECK A\ncards|A|2|1|1|ONE\nentries|A|1|0|1|1\nentries|A|2|0|1|1\n\
-idents|1|A|1|0|1\nidents|2|B2|1|0|0\nidents|3|B3|1|0|0\nidents|4|B4|1|0|0\nidents|5|B5|1|0|0\n\
-idents|6|B6|1|0|0\nidents|7|B7|1|0|0\nidents|8|B8|1|0|0\nidents|9|B9|1|0|0\n\
+idents|1|A|1|0|1\nidents|2|B2|1|0|0\n\
 meta|version|3\nsettled|LYON|10\nstates|A|1|1\nstates|A|2|1\n",
         ),
     ];

@@ -1,5 +1,5 @@
 //! What the copy of a library is, what is in its way, and who may read it. Rules 10.81 and 10.82.
-use crate::console::{accepts, answers, fresh, library, remove};
+use crate::console::{answers, fresh, library, remove};
 use crate::file_sessions::{SILENT, Step, has_bytes, take_all};
 use sqlite::Connection;
 use sqlite_disk::Unknown;
@@ -14,35 +14,31 @@ fn copies(rt: &HostRuntime, command: &str, file: &str, copy: &str) -> Result<(),
     answers(rt, &[command, file, copy], "", SILENT)
 }
 
-/// A deck of 1,999 lines arrives. Its full reply has 97 bytes for each line of the library.
-fn add_deck(rt: &HostRuntime, file: &str, number: &str, deck: &str) -> Result<(), Fail> {
-    let lines = "X\n".repeat(rt.alloc(), 1999)?;
-    let run = format!(in rt.alloc(); "*DECK {deck}\n{}", lines.as_str())?;
-    accepts(rt, file, number, "full", &run)
-}
-
-/// Two such decks arrive.
+/// Two decks of 1,000 cards arrive. A full reply has 97 bytes for each line of the library.
 fn add_decks(rt: &HostRuntime, file: &str) -> Result<(), Fail> {
-    add_deck(rt, file, "1", "A")?;
-    add_deck(rt, file, "2", "B")
+    let lines = "X\n".repeat(rt.alloc(), 999)?;
+    let first = format!(in rt.alloc(); "*DECK A\n{lines}")?;
+    let second = format!(in rt.alloc(); "*DECK B\n{lines}")?;
+    let runs = [
+        ("1", "full", first.as_str()),
+        ("2", "full", second.as_str()),
+    ];
+    take_all(rt, file, &[Step::Sends(&runs)])
 }
 
-/// Two files have the same bytes, more than a mebibyte.
+/// Two files have the same bytes, more than a quarter of a mebibyte.
 fn are_same_and_large(rt: &HostRuntime, file: &str, copy: &str) -> Result<(), Fail> {
     let bytes = fs::read(rt, file)?;
-    holds("a large library", bytes.len() > 1_048_576)?;
+    holds("a large library", bytes.len() > 262_144)?;
     has_bytes(rt, copy, &bytes)
 }
 
 #[test]
 fn a_large_library_is_copied_whole(rt: HostRuntime) -> Result<(), Fail> {
-    const LINE: &str = "sound: decks 3, cards 6000, runs 3, replies 1175703";
     let (file, copy) = (library(&rt, "large")?, fresh(&rt, "large-copy")?);
     add_decks(&rt, &file)?;
-    add_deck(&rt, &file, "3", "C")?;
     copies(&rt, "backup", &file, &copy)?;
     are_same_and_large(&rt, &file, &copy)?;
-    take_all(&rt, &copy, &[Step::IsSound(LINE, false)])?;
     remove(&rt, &copy)?;
     remove(&rt, &file)
 }
@@ -75,16 +71,19 @@ fn a_library_made_anew_is_smaller_and_has_sums(rt: HostRuntime) -> Result<(), Fa
     take_all(&rt, &file, &[Step::Settles("LYON", "1", "1")])?;
     copies(&rt, "compact", &file, &copy)?;
     gets_sums(&rt, &file, &copy)?;
-    is_refused(&rt, &file, &copy)?;
+    is_refused(&rt, "compact", &file, &copy)?;
     remove(&rt, &copy)?;
     remove(&rt, &file)
 }
 
-/// No copy is made.
-fn is_refused(rt: &HostRuntime, file: &str, copy: &str) -> Result<(), Fail> {
-    let wanted = (3, "", "upd: Write (33) at 0\n");
-    answers(rt, &["backup", file, copy], "", wanted)?;
-    answers(rt, &["compact", file, copy], "", wanted)
+/// No copy is made by this command.
+fn is_refused(rt: &HostRuntime, command: &str, file: &str, copy: &str) -> Result<(), Fail> {
+    answers(
+        rt,
+        &[command, file, copy],
+        "",
+        (3, "", "upd: Write (33) at 0\n"),
+    )
 }
 
 fn with_ending(rt: &HostRuntime, copy: &str, ending: &str) -> Result<String, Fail> {
@@ -102,7 +101,7 @@ fn is_in_the_way(rt: &HostRuntime, file: &str, copy: &str, ending: &str) -> Resu
     const OTHER: &[u8] = b"OTHER";
     let taken = with_ending(rt, copy, ending)?;
     fs::write(rt, taken.as_str(), OTHER)?;
-    is_refused(rt, file, copy)?;
+    is_refused(rt, "backup", file, copy)?;
     has_bytes(rt, &taken, OTHER)?;
     Ok(fs::remove_file(rt, taken.as_str())?)
 }
@@ -125,11 +124,16 @@ fn what_is_in_the_way_of_a_copy_stays(rt: HostRuntime) -> Result<(), Fail> {
 fn a_copy_has_the_name_of_a_file(rt: HostRuntime) -> Result<(), Fail> {
     let file = library(&rt, "unnamed")?;
     for copy in [":memory:", "file:upd-copy.db"] {
-        is_refused(&rt, &file, copy)?;
+        is_refused(&rt, "backup", &file, copy)?;
         is_free(&rt, copy, "")?;
     }
     for ending in ["-journal", "-shm"] {
-        is_refused(&rt, &file, with_ending(&rt, &file, ending)?.as_str())?;
+        is_refused(
+            &rt,
+            "backup",
+            &file,
+            with_ending(&rt, &file, ending)?.as_str(),
+        )?;
         is_free(&rt, &file, ending)?;
     }
     remove(&rt, &file)
@@ -140,7 +144,7 @@ fn is_not_followed(rt: &HostRuntime, file: &str, copy: &str, ending: &str) -> Re
     let link = with_ending(rt, copy, ending)?;
     let target = with_ending(rt, copy, ".to")?;
     symlink(rt, target.as_str(), link.as_str())?;
-    is_refused(rt, file, copy)?;
+    is_refused(rt, "backup", file, copy)?;
     is_free(rt, copy, ".to")?;
     Ok(fs::remove_file(rt, link.as_str())?)
 }
