@@ -24,10 +24,7 @@ pub fn applied(library: &mut Library, text: &str) -> Result<Applied, Fail> {
 pub fn take_run(library: &mut Library, text: &str) -> Result<(), Fail> {
     let alloc = library.allocator();
     let run = read_run(alloc, text.as_bytes())?;
-    let ReachedLibrary {
-        library: after,
-        ..
-    } = reach(alloc, library, &run)?;
+    let ReachedLibrary { library: after, .. } = reach(alloc, library, &run)?;
     *library = after;
     Ok(())
 }
