@@ -1,5 +1,5 @@
 //! What the copy of a library is, what is in its way, and who may read it. Rules 10.81 and 10.82.
-use crate::console::{answers, fresh, library, remove};
+use crate::console::{accepts, answers, fresh, library, remove};
 use crate::file_sessions::{SILENT, Step, has_bytes, take_all};
 use sqlite::Connection;
 use sqlite_disk::Unknown;
@@ -14,16 +14,17 @@ fn copies(rt: &HostRuntime, command: &str, file: &str, copy: &str) -> Result<(),
     answers(rt, &[command, file, copy], "", SILENT)
 }
 
-/// Two decks of 1,000 cards arrive. A full reply has 97 bytes for each line of the library.
-fn add_decks(rt: &HostRuntime, file: &str) -> Result<(), Fail> {
+/// A deck of 1,000 cards arrives. Its full reply has 97 bytes for each line of the library.
+fn add_deck(rt: &HostRuntime, file: &str, number: &str, deck: &str) -> Result<(), Fail> {
     let lines = "X\n".repeat(rt.alloc(), 999)?;
-    let first = format!(in rt.alloc(); "*DECK A\n{lines}")?;
-    let second = format!(in rt.alloc(); "*DECK B\n{lines}")?;
-    let runs = [
-        ("1", "full", first.as_str()),
-        ("2", "full", second.as_str()),
-    ];
-    take_all(rt, file, &[Step::Sends(&runs)])
+    let run = format!(in rt.alloc(); "*DECK {deck}\n{}", lines.as_str())?;
+    accepts(rt, file, number, "full", &run)
+}
+
+/// Two such decks arrive.
+fn add_decks(rt: &HostRuntime, file: &str) -> Result<(), Fail> {
+    add_deck(rt, file, "1", "A")?;
+    add_deck(rt, file, "2", "B")
 }
 
 /// Two files have the same bytes, more than a quarter of a mebibyte.

@@ -33,16 +33,16 @@ const SAME: Step<'static> = Step::Writes("replay", &[], "replayed: runs 5\n");
 /// Runs are replayed in the order of their arrival, which changes no byte, and those of a settled library are not.
 #[test]
 fn libraries_are_replayed(rt: HostRuntime) -> Result<(), Fail> {
+    const EMPTY: &[Step<'_>] = &[Step::Writes("replay", &[], "replayed: runs 0\n"), SENT];
     const SETTLED_LINE: &str = "upd: runs are settled, so the library can't be replayed\n";
+    const SETTLED: &[Step<'_>] = &[
+        Step::Settles("LYON", "1", "1"),
+        Step::Answers("replay", &[], "", (1, "", SETTLED_LINE)),
+    ];
     let file = library(&rt, "replayed")?;
-    take_all(
-        &rt,
-        &file,
-        &[Step::Writes("replay", &[], "replayed: runs 0\n"), SENT],
-    )?;
+    take_all(&rt, &file, EMPTY)?;
     stays(&rt, &file, &[SAME])?;
-    let settled = Step::Answers("replay", &[], "", (1, "", SETTLED_LINE));
-    take_all(&rt, &file, &[Step::Settles("LYON", "1", "1"), settled])?;
+    take_all(&rt, &file, SETTLED)?;
     remove(&rt, &file)
 }
 
