@@ -23,7 +23,7 @@ fn sites_send_settle_and_ask(rt: HostRuntime) -> Result<(), Fail> {
         "",
     );
     const RUNS: &str = "LYON 9 quick accepted A\nLYON 10 full TextNowhere\n";
-    const SITES: &str = "LYON 8 10 11 217\nOSLO 999999998 999999998 999999999 0\n";
+    const SITES: &str = "LYON 8 10 11 207\nOSLO 999999998 999999998 999999999 0\n";
     const STEPS: &[Step<'_>] = &[
         Step::New("a spool is answered line by line (rule 10.43)"),
         Step::Answers("spool", &[], "RUN LYON 1 quick 0\n\nRUN LYON", CUT),
