@@ -9,8 +9,8 @@ use Rattle.upd_memory.proofs.Common.{None, Some, Decides-eqb, by_name, get, is_e
 use Rattle.upd_memory.proofs.NameOrderLemmas.{same_by_order}
 use Rattle.upd_records.proofs.EffectLemmas.{any_append}
 use Rattle.upd_core.specs.Edits as serials
-use Rattle.upd_shifts.specs.Ranges.{is_among}
-use Rattle.upd_shifts.proofs.RangeLemmas.{among_more, filter_alike, filter_both, filter_none}
+use Rattle.upd_row_store.specs.Ranges.{is_among}
+use Rattle.upd_row_store.proofs.RangeLemmas.{among_more, filter_alike, filter_both, filter_none}
 use Rattle.upd_memory.proofs.KeyedLemmas.{apart_stay}
 
 -- one card more

@@ -5,7 +5,7 @@ use Rattle.std.proofs.Common.{IfOk}
 use Rattle.upd_records.specs.Changes.{IdentNew, IdentPurged, CardGone, CardsMoved, EntryNew, EntriesGone, TargetNew, TargetsGone, StatusNow, CountNow}
 use Rattle.upd_records.specs.Rows.{MarkRow, RunView}
 use Rattle.upd_row_store.specs.Tables.{committed, with_run}
-use Rattle.upd_shifts.proofs.MoveLemmas.{done_parts}
+use Rattle.upd_row_store.proofs.MoveLemmas.{done_parts}
 use Rattle.upd_memory.specs.declared.mirror.Mirror.{Mirror}
 use Rattle.upd_memory.specs.Lists.{made_tables, no_rows}
 use Rattle.upd_memory.specs.Mirrored.{AgreesIfAny}

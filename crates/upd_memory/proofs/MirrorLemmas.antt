@@ -14,10 +14,10 @@ use Rattle.upd_records.specs.Rows.{count_rows}
 use Rattle.upd_row_store.proofs.AskedLemmas.{filter_made}
 use Rattle.std.proofs.Common.{take}
 use Rattle.std.proofs.lemmas.List.{take-append-drop}
-use Rattle.upd_shifts.proofs.MoveLemmas.{card_stays, deck_stays, done_parts, other_stays}
-use Rattle.upd_shifts.proofs.ShiftLemmas.{all_placed}
-use Rattle.upd_shifts.specs.declared.moves.Move.{Move}
-use Rattle.upd_shifts.specs.Shifts.{moved_all, moved_pos}
+use Rattle.upd_row_store.proofs.MoveLemmas.{card_stays, deck_stays, done_parts, other_stays}
+use Rattle.upd_row_store.proofs.ShiftLemmas.{all_placed}
+use Rattle.upd_row_store.specs.declared.moves.Move.{Move}
+use Rattle.upd_row_store.specs.Shifts.{moved_all, moved_pos}
 use Rattle.upd_memory.specs.declared.mirror.Mirror.{Mirror}
 use Rattle.upd_memory.proofs.KeyedLemmas.{any_gone, any_mapped, any_stays, apart_stay, filter_mapped, one_more, some_gone}
 use Rattle.upd_memory.proofs.NameOrderLemmas.{alike, one_by_order, turned}

@@ -6,7 +6,7 @@ ghost use Rattle.std.specs.Ordering.{is_eq};
 ghost use Rattle.upd_text.specs.Order.{by_name};
 ghost use Rattle.upd_text.specs.declared.card_ref.CardRef.{CardRef};
 ghost use Rattle.upd_core.specs.Edits as serials;
-ghost use Rattle.upd_shifts.specs.Ranges.{is_among};
+ghost use Rattle.upd_row_store.specs.Ranges.{is_among};
 ghost use Rattle.upd_memory.specs.RowsByKey.{cards_at, is_home, is_in};
 
 use crate::tables::home_of;

@@ -8,9 +8,9 @@ ghost use Rattle.upd_records.specs.Changes.{EntriesGone, EntryNew, IdentNew, Ide
 ghost use Rattle.upd_records.specs.Changes.{StatusNow, TargetNew, TargetsGone};
 ghost use Rattle.upd_records.specs.Fits.{AllFit};
 ghost use Rattle.upd_records.specs.Rows.{MarkRow, Rows, RunView, same_ref};
-ghost use Rattle.upd_shifts.specs.Ranges.{is_among, without_cards, without_rows};
-ghost use Rattle.upd_shifts.specs.Shifts.{as_change};
-ghost use Rattle.upd_shifts.specs.declared.ranges.CardRows.TheVariants.{Card, Entries, Targets};
+ghost use Rattle.upd_row_store.specs.Ranges.{is_among, without_cards, without_rows};
+ghost use Rattle.upd_row_store.specs.Shifts.{as_change};
+ghost use Rattle.upd_row_store.specs.declared.ranges.CardRows.TheVariants.{Card, Entries, Targets};
 ghost use Rattle.upd_memory.specs.Lists.{made_tables};
 ghost use Rattle.upd_memory.specs.Mirrored.{Agrees, AgreesIfAny};
 
@@ -23,7 +23,7 @@ use std::alloc::Global;
 use std::collections::BTreeMap;
 use upd_core::{CardRef, Change, Entry, Ident, Serial, Target};
 use upd_records::{CardRow, EntryRow, TargetRow, drop_targets, purge_ident};
-use upd_shifts::{GoneCards, Move, gone_cards, moves_of, part_ahead, pieces_of};
+use upd_row_store::{GoneCards, Move, gone_cards, moves_of, part_ahead, pieces_of};
 
 /// The rows of idents, cards, entries and targets, the statuses and the counts.
 pub struct Mirror {

@@ -9,16 +9,16 @@ ghost use Rattle.upd_text.specs.Order.{by_name};
 ghost use Rattle.upd_text.specs.declared.card_ref.CardRef.{CardRef};
 ghost use Rattle.upd_core.specs.Targets.{is_same};
 ghost use Rattle.upd_records.specs.Rows.{CardRow, IsSame, StateRow};
-ghost use Rattle.upd_shifts.specs.declared.moves.Move.{Move};
-ghost use Rattle.upd_shifts.specs.Ranges.{is_among};
-ghost use Rattle.upd_shifts.specs.Shifts.{IsPiece, moved_all};
+ghost use Rattle.upd_row_store.specs.declared.moves.Move.{Move};
+ghost use Rattle.upd_row_store.specs.Ranges.{is_among};
+ghost use Rattle.upd_row_store.specs.Shifts.{IsPiece, moved_all};
 ghost use Rattle.upd_memory.specs.RowsByKey.{AreHomes, AreStatuses, cards_at, entries_at, is_home};
 
 use std::alloc::{AllocError, Global};
 use std::collections::BTreeMap;
 use upd_core::{CardRef, Serial, Target};
 use upd_records::{CardRow, EntryRow};
-use upd_shifts::{Piece, place_by};
+use upd_row_store::{Piece, place_by};
 
 // ---- counts, in any order
 

@@ -17,3 +17,8 @@ pub mod AskedLemmas
 pub mod Common
 pub mod MovableLemmas
 pub mod NamedLemmas
+pub mod MoveLemmas
+pub mod PieceLemmas
+pub mod RangeLemmas
+pub mod ShiftLemmas
+pub mod PlanLemmas

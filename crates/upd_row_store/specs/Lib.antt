@@ -6,3 +6,6 @@ pub mod Activating
 pub mod PartRows
 pub mod Movable
 pub mod ByCard
+pub mod Plans
+pub mod Ranges
+pub mod Shifts

@@ -4,8 +4,8 @@ use Rattle.upd_sql.proofs.Common.{Target, Set, SetIn, Deck, is_same, CardRow, En
 use Rattle.upd_sql.proofs.Common.{is_run, is_settled, is_mark_of, eq_text, eq_nat, one_test, two_tests, three_tests, num, target_code, card_row, entry_row}
 use Rattle.upd_sql.proofs.Common.{target_row, run_row, state_row, count_row, mark_row, list_all, Text, Row, Term, holds}
 use Rattle.std.proofs.Common.{nat_eq}
-use Rattle.upd_shifts.specs.Ranges.{in_range}
-use Rattle.upd_shifts.specs.declared.ranges.CardRange.{CardRange}
+use Rattle.upd_row_store.specs.Ranges.{in_range}
+use Rattle.upd_row_store.specs.declared.ranges.CardRange.{CardRange}
 use Rattle.upd_sqlite.proofs.Tests.{ge_nat, le_nat}
 use Rattle.upd_sql.proofs.WriteTexts.{card_tests, delete_count_tests, delete_runs_tests, first_tests, range_tests}
 use Rattle.upd_sql.proofs.ReadTexts.{run_of_key_tests, mark_of_site_tests}

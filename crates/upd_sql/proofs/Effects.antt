@@ -12,14 +12,14 @@ use Rattle.std.proofs.Common.{◌≤◌}
 use Rattle.sqlite_keyed.proofs.ListLemmas.{all_of}
 use Rattle.sqlite_value.specs.declared.value.Value.{Value}
 use Rattle.upd_records.specs.Changes.{purged_row, IdentNew, IdentPurged, CardNew, EntryNew, TargetNew}
-use Rattle.upd_shifts.specs.Ranges.{in_range, without_rows}
-use Rattle.upd_shifts.specs.declared.ranges.CardRange.{CardRange}
-use Rattle.upd_shifts.specs.declared.ranges.CardRows.TheVariants.{Entries, Targets}
+use Rattle.upd_row_store.specs.Ranges.{in_range, without_rows}
+use Rattle.upd_row_store.specs.declared.ranges.CardRange.{CardRange}
+use Rattle.upd_row_store.specs.declared.ranges.CardRows.TheVariants.{Entries, Targets}
 use Rattle.upd_sqlite.proofs.Tests.{ge_nat, add_nat, sub_nat}
 use Rattle.sqlite_sql.specs.Ops.{binary}
 use Rattle.sqlite_sql.specs.declared.ops.ArithOp.TheVariants.{Add, Sub}
 use Rattle.sqlite_sql.specs.declared.ops.BinaryOp.TheVariants.{Arith}
-use Rattle.upd_shifts.specs.Shifts.{is_behind}
+use Rattle.upd_row_store.specs.Shifts.{is_behind}
 use Rattle.upd_sql.proofs.Typed.{TableOf, table, adds, removes, changes, changes_counted}
 use Rattle.upd_sql.proofs.Casts.{cast_ident, cast_card, cast_entry, cast_target, cast_run, cast_state, cast_count, cast_mark}
 use Rattle.upd_sql.proofs.Conditions.{bytes_flip, passes, range_params, card_ranged, entry_ranged, target_ranged, state_ranged, state_told, count_named}

@@ -3,10 +3,10 @@ use Rattle.upd_sql.proofs.Common.{◌≡◌, ℕ, ◌+◌, List, [], ◌∷◌, 
 use Rattle.upd_sql.proofs.Common.{ChangeView, HoldsTables, Makes, Result, Error}
 use Rattle.std.proofs.Common.{IfSome, None, Option, Some}
 use Rattle.std.specs.List.{flat_map}
-use Rattle.upd_shifts.specs.declared.plans.DeckPlan.{DeckPlan}
-use Rattle.upd_shifts.specs.Plans.{DecksRise, IsPlan, planned}
-use Rattle.upd_shifts.specs.Shifts.{moved_all}
-use Rattle.upd_shifts.proofs.PlanLemmas.{plans_still}
+use Rattle.upd_row_store.specs.declared.plans.DeckPlan.{DeckPlan}
+use Rattle.upd_row_store.specs.Plans.{DecksRise, IsPlan, planned}
+use Rattle.upd_row_store.specs.Shifts.{moved_all}
+use Rattle.upd_row_store.proofs.PlanLemmas.{plans_still}
 use Rattle.upd_sql.proofs.Typed.{makes_more}
 use Rattle.upd_sql.proofs.TogetherLemmas.{all_moved, done_parts, together}
 use Rattle.upd_sql.specs.ManyDecks.{AllCanPlan, DoAsPlanned, with_plans}

@@ -10,8 +10,8 @@ use Rattle.sqlite_sql.specs.declared.ops.BinaryOp.TheVariants.{Arith}
 use Rattle.sqlite_sql.specs.Ops.{binary}
 use Rattle.upd_records.specs.Changes.{shifted}
 use Rattle.upd_records.specs.Fits.{CanMove}
-use Rattle.upd_shifts.specs.declared.shift.Shift.{Shift}
-use Rattle.upd_shifts.specs.Shifts.{CanShift, covers_by, is_behind, shifted_row, with_shifted}
+use Rattle.upd_row_store.specs.declared.shift.Shift.{Shift}
+use Rattle.upd_row_store.specs.Shifts.{CanShift, covers_by, is_behind, shifted_row, with_shifted}
 use Rattle.upd_sqlite.proofs.Tests.{ge_nat, le_nat, add_nat}
 use Rattle.upd_sql.proofs.Typed.{changes, reads_exactly}
 use Rattle.upd_sql.proofs.Effects.{cards}

@@ -3,10 +3,10 @@ use Rattle.upd_sql.proofs.Common.{◌≡◌, Bool, true, List, [], ◌∷◌, �
 use Rattle.upd_sql.proofs.Common.{◌∙◌, IsErr, Error, State, CardRef, Rows, HoldsTables, AnyTables, Makes, makes_as, without_states}
 use Rattle.std.proofs.Common.{◌||◌}
 use Rattle.upd_records.proofs.EffectLemmas.{any_append}
-use Rattle.upd_shifts.specs.Ranges.{in_range, in_ranges, without_rows}
-use Rattle.upd_shifts.specs.declared.ranges.CardRange.{CardRange}
-use Rattle.upd_shifts.specs.declared.ranges.CardRows.{CardRows}
-use Rattle.upd_shifts.proofs.RangeLemmas.{filter_alike, one_or, rows_both, rows_stay}
+use Rattle.upd_row_store.specs.Ranges.{in_range, in_ranges, without_rows}
+use Rattle.upd_row_store.specs.declared.ranges.CardRange.{CardRange}
+use Rattle.upd_row_store.specs.declared.ranges.CardRows.{CardRows}
+use Rattle.upd_row_store.proofs.RangeLemmas.{filter_alike, one_or, rows_both, rows_stay}
 use Rattle.upd_sql.specs.Moving.{MakesIf}
 use Rattle.upd_sql.proofs.Typed.{makes_more, makes_none}
 

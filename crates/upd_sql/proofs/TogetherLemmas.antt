@@ -8,9 +8,9 @@ use Rattle.upd_core.specs.declared.change.Change.{Change}
 use Rattle.upd_records.specs.Changes.{moved_row}
 use Rattle.upd_records.specs.Fits.{AllFit}
 use Rattle.upd_row_store.specs.Movable.{AllMoveListed}
-use Rattle.upd_shifts.specs.declared.moves.Move.{Move}
-use Rattle.upd_shifts.specs.declared.shift.Shift.{Shift}
-use Rattle.upd_shifts.specs.Shifts.{CanShift, CanShiftAll, as_change, moved_all, shifted_all, shifted_row, with_shifted}
+use Rattle.upd_row_store.specs.declared.moves.Move.{Move}
+use Rattle.upd_row_store.specs.declared.shift.Shift.{Shift}
+use Rattle.upd_row_store.specs.Shifts.{CanShift, CanShiftAll, as_change, moved_all, shifted_all, shifted_row, with_shifted}
 use Rattle.upd_sql.proofs.Typed.{makes_more, mapped_each}
 use Rattle.upd_sql.specs.Commits.{Looks}
 use Rattle.upd_sql.specs.Doable.{CanBeDone}

@@ -2,7 +2,7 @@
 use Rattle.std.specs.Prelude.{◌≡◌, List, [], ◌∷◌}
 use Rattle.upd_records.specs.Changes.{ChangeView, done_all}
 use Rattle.upd_records.specs.Rows.{Rows}
-use Rattle.upd_shifts.specs.declared.plans.DeckPlan.{DeckPlan}
+use Rattle.upd_row_store.specs.declared.plans.DeckPlan.{DeckPlan}
 use Rattle.upd_sql.specs.Moving.{AllCanShift, with_all_shifted}
 
 -- the tables after the shifts of plans in order

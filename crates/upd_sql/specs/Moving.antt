@@ -4,9 +4,9 @@ use Rattle.std.specs.List.{AllByRecursion}
 use Rattle.sqlite.specs.declared.error.Error.{Error}
 use Rattle.sqlite.specs.State.{State, HasCleanDisk}
 use Rattle.upd_records.specs.Rows.{Rows}
-use Rattle.upd_shifts.specs.declared.moves.Move.{Move}
-use Rattle.upd_shifts.specs.declared.shift.Shift.{Shift}
-use Rattle.upd_shifts.specs.Shifts.{CanShift, IsRight, with_shifted}
+use Rattle.upd_row_store.specs.declared.moves.Move.{Move}
+use Rattle.upd_row_store.specs.declared.shift.Shift.{Shift}
+use Rattle.upd_row_store.specs.Shifts.{CanShift, IsRight, with_shifted}
 use Rattle.upd_sqlite.specs.Steps.{Steps}
 use Rattle.upd_sql.specs.LibraryTables.{HoldsTables}
 

@@ -16,7 +16,7 @@ use sqlite::{Alter, Error, Transaction};
 use std::alloc::Global;
 use upd_core::Change;
 use upd_records::CardRow;
-use upd_shifts::{DeckPlan, part_ahead, plans_of};
+use upd_row_store::{DeckPlan, part_ahead, plans_of};
 
 fn is_move(change: &Change) -> bool {
     matches!(change, Change::CardsMoved { .. })

@@ -5,7 +5,7 @@ ghost use Rattle.sqlite.specs.Held.{state};
 ghost use Rattle.sqlite_value.specs.Value.{owned};
 ghost use Rattle.sqlite_value.specs.declared.value.Value.TheVariants.{Int};
 ghost use Rattle.upd_records.specs.Changes.{done_all};
-ghost use Rattle.upd_shifts.specs.Shifts.{CanShift, as_change, is_behind, with_shifted};
+ghost use Rattle.upd_row_store.specs.Shifts.{CanShift, as_change, is_behind, with_shifted};
 ghost use Rattle.upd_sqlite.specs.Steps.{Makes};
 ghost use Rattle.upd_sql.specs.Commits.{Inside, Looks};
 ghost use Rattle.upd_sql.specs.LibraryTables.{HoldsTables};
@@ -20,7 +20,7 @@ use sqlite::{Alter, Error, Transaction};
 use std::alloc::Global;
 use upd_core::Serial;
 use upd_records::CardRow;
-use upd_shifts::{Move, Shift, are_behind, shifts_of};
+use upd_row_store::{Move, Shift, are_behind, shifts_of};
 use upd_sqlite::run;
 
 fn signed(n: &i64) -> ValueRef<'static>

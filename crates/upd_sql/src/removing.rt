@@ -3,8 +3,8 @@ ghost use Rattle.std.specs.Prelude.{map};
 ghost use Rattle.sqlite.specs.Held.{state};
 ghost use Rattle.upd_records.specs.Changes.{change_view, done_all};
 ghost use Rattle.upd_records.specs.Rows.{same_ref};
-ghost use Rattle.upd_shifts.specs.Ranges.{in_range, in_ranges, without, without_rows};
-ghost use Rattle.upd_shifts.specs.declared.ranges.CardRows.TheVariants.{Card};
+ghost use Rattle.upd_row_store.specs.Ranges.{in_range, in_ranges, without, without_rows};
+ghost use Rattle.upd_row_store.specs.declared.ranges.CardRows.TheVariants.{Card};
 ghost use Rattle.upd_sqlite.specs.Steps.{Makes};
 ghost use Rattle.upd_sql.specs.Commits.{Inside};
 ghost use Rattle.upd_sql.specs.LibraryTables.{AnyTables, HoldsTables};
@@ -14,7 +14,7 @@ use crate::writes;
 use sqlite::{Alter, Error, Transaction};
 use std::alloc::Global;
 use upd_core::{CardRef, Change};
-use upd_shifts::{CardRange, CardRows, Gone, gone_of};
+use upd_row_store::{CardRange, CardRows, Gone, gone_of};
 
 /// Removes the rows of cards and their statuses.
 fn remove_cards<S: Alter>(tx: &mut Transaction<'_, S>, range: &CardRange) -> Result<(), Error>

@@ -5,7 +5,7 @@ ghost use Rattle.upd_records.specs.Changes.{done, done_all, change_view, CardsMo
 ghost use Rattle.upd_records.specs.Fits.{AllFit, Fits};
 ghost use Rattle.upd_records.specs.Rows.{same_ref};
 ghost use Rattle.upd_row_store.specs.Movable.{MovesListed};
-ghost use Rattle.upd_shifts.specs.Shifts.{as_change};
+ghost use Rattle.upd_row_store.specs.Shifts.{as_change};
 ghost use Rattle.upd_sqlite.specs.Steps.{Makes};
 ghost use Rattle.upd_sql.specs.Commits.{Inside};
 ghost use Rattle.upd_sql.specs.Doable.{AllCanBeDone, CanBeDone};
@@ -21,7 +21,7 @@ use sqlite::{Alter, Error, Transaction};
 use std::alloc::Global;
 use std::collections::BTreeMap;
 use upd_core::{CardRef, Change, Name, Serial, Target};
-use upd_shifts::{CardRange, CardRows, Move, moves_of};
+use upd_row_store::{CardRange, CardRows, Move, moves_of};
 
 /// Puts the card's status after all others, in place of those that the card has.
 fn replace_state<S: Alter>(

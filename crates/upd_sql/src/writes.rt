@@ -4,8 +4,8 @@ ghost use Rattle.sqlite.specs.Held.{state};
 ghost use Rattle.upd_records.specs.Changes.{done, CardNew, CardsMoved, EntryNew, IdentNew, IdentPurged, TargetNew};
 ghost use Rattle.upd_records.specs.Fits.{Fits};
 ghost use Rattle.upd_row_store.specs.Tables.{with_run};
-ghost use Rattle.upd_shifts.specs.Ranges.{in_range, without_rows};
-ghost use Rattle.upd_shifts.specs.declared.ranges.CardRows.TheVariants.{Entries, Targets};
+ghost use Rattle.upd_row_store.specs.Ranges.{in_range, without_rows};
+ghost use Rattle.upd_row_store.specs.declared.ranges.CardRows.TheVariants.{Entries, Targets};
 ghost use Rattle.upd_sqlite.specs.Steps.{Makes};
 ghost use Rattle.upd_sql.specs.RowEdits.{CanMoveOf, with_count, with_mark, with_moved, with_restated, with_state, without_card_rows};
 ghost use Rattle.upd_sql.specs.RowEdits.{without_count, without_mark, without_runs, without_states};
@@ -17,7 +17,7 @@ use crate::values::{self, blob, codes_of, flag, kind, name, number, text, wide};
 use sqlite::{Alter, Error, Transaction};
 use upd_core::{CardRef, Entry, Ident, Name, Serial, Target};
 use upd_records::RunRow;
-use upd_shifts::CardRange;
+use upd_row_store::CardRange;
 use upd_sqlite::{run, run_counted};
 
 pub(crate) fn insert_ident<S: Alter>(

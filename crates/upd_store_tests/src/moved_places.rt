@@ -1,7 +1,7 @@
 //! How far cards move, by the moves of purges that take much away at near places.
 use std::alloc::Global;
 use std::test::Fail;
-use upd_shifts::{Move, Piece, pieces_of, place_by};
+use upd_row_store::{Move, Piece, pieces_of, place_by};
 use upd_testkit::check::{holds, same};
 
 /// Cards 1 to 3 and 5 of eight go: the others come to 0, 1, 2, 3. Then 2 to 4 and 6 to 7 of nine.

@@ -1,5 +1,5 @@
 use Rattle.upd_memory.proofs.Common.{◌∙◌, sym, take}
-use Rattle.upd_shifts.specs.Ranges.{is_among}
+use Rattle.upd_row_store.specs.Ranges.{is_among}
 use Rattle.upd_memory.specs.RowsByKey.{is_in}
 use Rattle.upd_memory.proofs.CardSetLemmas.{put_in, seen_more}
 use Rattle.upd_memory.proofs.card_sets.set_of.Goals as goal

@@ -1,6 +1,6 @@
 use Rattle.upd_memory.proofs.Common.{◌≡◌, arith, common_steps, List, subst, sym, take, filter, not, CardRow, AreHomes}
-use Rattle.upd_shifts.specs.Ranges.{is_among}
-use Rattle.upd_shifts.proofs.RangeLemmas.{filter_none}
+use Rattle.upd_row_store.specs.Ranges.{is_among}
+use Rattle.upd_row_store.proofs.RangeLemmas.{filter_none}
 use Rattle.upd_memory.proofs.CardSetLemmas.{rows_left}
 use Rattle.upd_memory.proofs.MirrorLemmas.{homes_left}
 use Rattle.upd_memory.proofs.tables.drop_homes.Goals as goal

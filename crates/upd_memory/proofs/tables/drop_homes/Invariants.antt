@@ -1,5 +1,5 @@
 use Rattle.upd_memory.proofs.Common.{List, take, filter, not, CardRow, AreHomes}
-use Rattle.upd_shifts.specs.Ranges.{is_among}
+use Rattle.upd_row_store.specs.Ranges.{is_among}
 use Rattle.upd_memory.proofs.tables.drop_homes.Given as goal
 
 abbrev pub invariant-loop-card : goal.invariant-loop-card

@@ -1,6 +1,6 @@
 use Rattle.upd_memory.proofs.Common.{◌≡◌, ◌==◌, true, false, rules, sym, ap, subst, ◌∙◌, CardRow}
-use Rattle.upd_shifts.specs.Shifts.{moved_pos}
-use Rattle.upd_shifts.proofs.MoveLemmas.{other_stays}
+use Rattle.upd_row_store.specs.Shifts.{moved_pos}
+use Rattle.upd_row_store.proofs.MoveLemmas.{other_stays}
 use Rattle.upd_memory.proofs.MirrorLemmas.{row_placed}
 use Rattle.upd_memory.proofs.tables.place_card.Goals as goal
 

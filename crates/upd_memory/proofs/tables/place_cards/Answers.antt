@@ -1,5 +1,5 @@
 use Rattle.upd_memory.proofs.Common.{◌≤◌, length, refl, arith, ◌∙◌, map_over_more}
-use Rattle.upd_shifts.specs.Shifts.{moved_all}
+use Rattle.upd_row_store.specs.Shifts.{moved_all}
 use Rattle.upd_memory.proofs.MirrorLemmas.{all_over}
 use Rattle.upd_memory.proofs.tables.place_cards.Goals as goal
 

@@ -1,6 +1,6 @@
 use Rattle.upd_memory.proofs.Common.{◌≡◌, List, map, take, drop, ◌++◌, AllByRecursion}
-use Rattle.upd_shifts.specs.declared.moves.Move.{Move}
-use Rattle.upd_shifts.specs.Shifts.{IsPiece, moved_all}
+use Rattle.upd_row_store.specs.declared.moves.Move.{Move}
+use Rattle.upd_row_store.specs.Shifts.{IsPiece, moved_all}
 use Rattle.upd_memory.proofs.tables.place_cards.Given as goal
 
 abbrev pub invariant-loop-row : goal.invariant-loop-row

@@ -1,5 +1,5 @@
 use Rattle.upd_memory.proofs.Common.{◌≡◌, map, arith, common_steps}
-use Rattle.upd_shifts.specs.Shifts.{moved_all}
+use Rattle.upd_row_store.specs.Shifts.{moved_all}
 use Rattle.upd_memory.proofs.MirrorLemmas.{on_success}
 use Rattle.upd_memory.proofs.tables.place_cards_of.Goals as goal
 

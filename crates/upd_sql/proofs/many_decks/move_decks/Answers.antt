@@ -1,6 +1,6 @@
 use Rattle.upd_sql.proofs.Common.{◌≡◌, map, List, Ok, subst, ◌∙◌, state, Makes, HoldsTables, change_view, done_all}
 use Rattle.std.proofs.Common.{IfSome}
-use Rattle.upd_shifts.specs.declared.plans.DeckPlan.{DeckPlan}
+use Rattle.upd_row_store.specs.declared.plans.DeckPlan.{DeckPlan}
 use Rattle.upd_sql.specs.ManyDecks.{AllCanPlan, DoAsPlanned, with_plans}
 use Rattle.upd_sql.proofs.WholeLemmas.{looks_as}
 use Rattle.upd_sql.proofs.TogetherLemmas.{made_found}

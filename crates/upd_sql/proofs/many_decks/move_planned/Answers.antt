@@ -1,6 +1,6 @@
 use Rattle.upd_sql.proofs.Common.{◌++◌, ◌∷◌, [], List, take, take_more, Ok, sym, ap, subst, ◌∙◌, state, Makes, HoldsTables}
-use Rattle.upd_shifts.specs.declared.plans.DeckPlan.{DeckPlan}
-use Rattle.upd_shifts.specs.declared.shift.Shift.{Shift}
+use Rattle.upd_row_store.specs.declared.plans.DeckPlan.{DeckPlan}
+use Rattle.upd_row_store.specs.declared.shift.Shift.{Shift}
 use Rattle.upd_sql.specs.ManyDecks.{AllCanPlan, with_plans}
 use Rattle.upd_sql.specs.Moving.{AllCanShift, with_all_shifted}
 use Rattle.upd_sql.proofs.ManyDeckLemmas.{one_planned}

@@ -1,6 +1,6 @@
 use Rattle.upd_sql.proofs.Common.{◌≡◌, map, ◌∙◌, subst, state, AllByRecursion, List, CardRow, change_view}
 use Rattle.std.proofs.Common.{IfSome}
-use Rattle.upd_shifts.specs.Plans.{IsPlan}
+use Rattle.upd_row_store.specs.Plans.{IsPlan}
 use Rattle.upd_sql.specs.ManyDecks.{DoAsPlanned}
 use Rattle.upd_sql.proofs.ManyDeckLemmas.{do_as_planned, on_all}
 use Rattle.upd_sql.proofs.WholeLemmas.{looks_as}

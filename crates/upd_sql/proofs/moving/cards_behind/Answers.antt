@@ -1,5 +1,5 @@
 use Rattle.upd_sql.proofs.Common.{◌≡◌, filter, [], ◌∷◌, ◌∙◌, state, num}
-use Rattle.upd_shifts.specs.Shifts.{is_behind}
+use Rattle.upd_row_store.specs.Shifts.{is_behind}
 use Rattle.upd_sql.specs.declared.moving_texts.TheConstants.{CARDS_BEHIND}
 use Rattle.upd_sql.proofs.Finds.{on_value}
 use Rattle.upd_sql.proofs.MovingEffects.{cards_found}

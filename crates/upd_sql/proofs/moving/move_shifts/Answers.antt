@@ -1,5 +1,5 @@
 use Rattle.upd_sql.proofs.Common.{◌++◌, ◌∷◌, [], List, take, take_more, Ok, sym, ap, subst, ◌∙◌, state, Makes, HoldsTables}
-use Rattle.upd_shifts.specs.declared.shift.Shift.{Shift}
+use Rattle.upd_row_store.specs.declared.shift.Shift.{Shift}
 use Rattle.upd_sql.specs.Moving.{AllCanShift, with_all_shifted}
 use Rattle.upd_sql.proofs.TogetherLemmas.{one_shifted}
 use Rattle.upd_sql.proofs.moving.move_shifts.Goals as goal

@@ -1,6 +1,6 @@
 use Rattle.upd_sql.proofs.Common.{List, Ok, subst, ◌∙◌, state, Makes, HoldsTables}
 use Rattle.std.proofs.Common.{IfSome}
-use Rattle.upd_shifts.specs.declared.shift.Shift.{Shift}
+use Rattle.upd_row_store.specs.declared.shift.Shift.{Shift}
 use Rattle.upd_sql.specs.Moving.{AllCanShift, AllRight, with_all_shifted}
 use Rattle.upd_sql.proofs.WholeLemmas.{looks_as}
 use Rattle.upd_sql.proofs.TogetherLemmas.{made_together}

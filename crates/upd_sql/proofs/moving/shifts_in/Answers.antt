@@ -1,8 +1,8 @@
 use Rattle.upd_sql.proofs.Common.{◌≡◌, filter, subst, ◌∙◌, state, AllByRecursion, List, CardRow}
 use Rattle.std.proofs.Common.{IfSome}
-use Rattle.upd_shifts.specs.Shifts.{IsRight, is_behind}
+use Rattle.upd_row_store.specs.Shifts.{IsRight, is_behind}
 use Rattle.upd_sql.specs.Moving.{AllRight}
-use Rattle.upd_shifts.proofs.PlanLemmas.{all_right}
+use Rattle.upd_row_store.proofs.PlanLemmas.{all_right}
 use Rattle.upd_sql.proofs.WholeLemmas.{looks_as}
 use Rattle.upd_sql.proofs.TogetherLemmas.{on_some}
 use Rattle.upd_sql.proofs.moving.shifts_in.Goals as goal

@@ -1,6 +1,6 @@
 use Rattle.upd_sql.proofs.Common.{rules, state, same_ref, makes_as, HoldsTables, AnyTables}
-use Rattle.upd_shifts.specs.Ranges.{in_range, without_rows}
-use Rattle.upd_shifts.proofs.RangeLemmas.{rows_alike}
+use Rattle.upd_row_store.specs.Ranges.{in_range, without_rows}
+use Rattle.upd_row_store.proofs.RangeLemmas.{rows_alike}
 use Rattle.upd_sql.proofs.removing.remove.Goals as goal
 
 pub returns : goal.returns

@@ -1,5 +1,5 @@
 use Rattle.upd_sql.proofs.Common.{rules, state, without_card_rows, without_states}
-use Rattle.upd_shifts.specs.Ranges.{in_range}
+use Rattle.upd_row_store.specs.Ranges.{in_range}
 use Rattle.upd_sql.proofs.Typed.{makes_both}
 use Rattle.upd_sql.proofs.removing.remove_cards.Goals as goal
 

@@ -1,6 +1,6 @@
 use Rattle.upd_sql.proofs.Common.{rules, state}
-use Rattle.upd_shifts.specs.Ranges.{in_ranges, without_rows}
-use Rattle.upd_shifts.specs.declared.ranges.CardRows.TheVariants.{Card, Entries, Targets}
+use Rattle.upd_row_store.specs.Ranges.{in_ranges, without_rows}
+use Rattle.upd_row_store.specs.declared.ranges.CardRows.TheVariants.{Card, Entries, Targets}
 use Rattle.upd_sql.proofs.Typed.{makes_both}
 use Rattle.upd_sql.proofs.removing.remove_gone.Goals as goal
 

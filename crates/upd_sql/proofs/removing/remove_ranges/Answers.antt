@@ -1,6 +1,6 @@
 use Rattle.upd_sql.proofs.Common.{◌++◌, ◌∷◌, [], List, take, take_more, Ok, refl, sym, ap, subst, ◌∙◌, state, Makes, AnyTables, HoldsTables}
-use Rattle.upd_shifts.specs.Ranges.{in_ranges, without_rows}
-use Rattle.upd_shifts.specs.declared.ranges.CardRange.{CardRange}
+use Rattle.upd_row_store.specs.Ranges.{in_ranges, without_rows}
+use Rattle.upd_row_store.specs.declared.ranges.CardRange.{CardRange}
 use Rattle.upd_sql.proofs.RemovingLemmas.{none_removed, one_removed}
 use Rattle.upd_sql.proofs.removing.remove_ranges.Goals as goal
 

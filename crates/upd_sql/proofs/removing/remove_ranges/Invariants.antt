@@ -1,5 +1,5 @@
 use Rattle.upd_sql.proofs.Common.{◌≡◌, take, Ok, state, Makes, AnyTables, HoldsTables}
-use Rattle.upd_shifts.specs.Ranges.{in_ranges, without_rows}
+use Rattle.upd_row_store.specs.Ranges.{in_ranges, without_rows}
 use Rattle.upd_sql.proofs.removing.remove_ranges.Given as goal
 
 abbrev pub invariant-loop-range : goal.invariant-loop-range

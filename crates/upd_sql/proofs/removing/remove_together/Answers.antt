@@ -1,5 +1,5 @@
 use Rattle.upd_sql.proofs.Common.{rules, map, state, change_view, done_all}
-use Rattle.upd_shifts.specs.Ranges.{without}
+use Rattle.upd_row_store.specs.Ranges.{without}
 use Rattle.upd_sql.proofs.RemovingLemmas.{not_removed, removed}
 use Rattle.upd_sql.proofs.removing.remove_together.Goals as goal
 

@@ -1,5 +1,5 @@
 use Rattle.upd_sql.proofs.Common.{rules, state, same_ref, with_state, without_states, makes_as, HoldsTables, AnyTables}
-use Rattle.upd_shifts.specs.Ranges.{in_range}
+use Rattle.upd_row_store.specs.Ranges.{in_range}
 use Rattle.upd_sql.proofs.RemovingLemmas.{states_alike}
 use Rattle.upd_sql.proofs.Typed.{makes_both}
 use Rattle.upd_sql.proofs.row_writes.replace_state.Goals as goal

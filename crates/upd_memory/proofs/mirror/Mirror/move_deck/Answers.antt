@@ -1,6 +1,6 @@
 use Rattle.upd_memory.proofs.Common.{sym, subst, AllByRecursion, Agrees}
-use Rattle.upd_shifts.specs.Shifts.{IsPiece}
-use Rattle.upd_shifts.proofs.MoveLemmas.{all_moved}
+use Rattle.upd_row_store.specs.Shifts.{IsPiece}
+use Rattle.upd_row_store.proofs.MoveLemmas.{all_moved}
 use Rattle.upd_memory.proofs.MirrorLemmas.{cards_placed, homes_placed, on_success}
 use Rattle.upd_memory.proofs.mirror.Mirror.move_deck.Goals as goal
 

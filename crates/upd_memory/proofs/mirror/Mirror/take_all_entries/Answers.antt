@@ -1,7 +1,7 @@
 use Rattle.upd_memory.proofs.Common.{◌≡◌, ◌+◌, arith, common_steps, subst, sym, take, Agrees, same_ref}
-use Rattle.upd_shifts.specs.Ranges.{is_among, without_rows}
-use Rattle.upd_shifts.specs.declared.ranges.CardRows.TheVariants.{Entries}
-use Rattle.upd_shifts.proofs.RangeLemmas.{rows_both, rows_stay}
+use Rattle.upd_row_store.specs.Ranges.{is_among, without_rows}
+use Rattle.upd_row_store.specs.declared.ranges.CardRows.TheVariants.{Entries}
+use Rattle.upd_row_store.proofs.RangeLemmas.{rows_both, rows_stay}
 use Rattle.upd_memory.proofs.CardSetLemmas.{seen_more}
 use Rattle.upd_memory.proofs.mirror.Mirror.take_all_entries.Goals as goal
 

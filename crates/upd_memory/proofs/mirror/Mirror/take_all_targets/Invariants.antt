@@ -1,6 +1,6 @@
 use Rattle.upd_memory.proofs.Common.{take, Agrees, Rows}
-use Rattle.upd_shifts.specs.Ranges.{is_among, without_rows}
-use Rattle.upd_shifts.specs.declared.ranges.CardRows.TheVariants.{Targets}
+use Rattle.upd_row_store.specs.Ranges.{is_among, without_rows}
+use Rattle.upd_row_store.specs.declared.ranges.CardRows.TheVariants.{Targets}
 use Rattle.upd_memory.proofs.mirror.Mirror.take_all_targets.Given as goal
 
 abbrev pub invariant-loop-card : goal.invariant-loop-card

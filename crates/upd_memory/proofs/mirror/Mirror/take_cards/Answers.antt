@@ -1,6 +1,6 @@
 use Rattle.upd_memory.proofs.Common.{◌≡◌, ℕ, CardRef, list_any, is_home}
 use Rattle.upd_core.specs.Edits as serials
-use Rattle.upd_shifts.specs.Ranges.{is_among}
+use Rattle.upd_row_store.specs.Ranges.{is_among}
 use Rattle.upd_memory.specs.RowsByKey.{is_in}
 use Rattle.upd_memory.proofs.CardSetLemmas.{cards_left}
 use Rattle.upd_memory.proofs.MirrorLemmas.{ok_value}

@@ -1,6 +1,6 @@
 use Rattle.upd_memory.proofs.Common.{Agrees}
-use Rattle.upd_shifts.specs.Ranges.{is_among, without_rows}
-use Rattle.upd_shifts.specs.declared.ranges.CardRows.TheVariants.{Card, Entries, Targets}
+use Rattle.upd_row_store.specs.Ranges.{is_among, without_rows}
+use Rattle.upd_row_store.specs.declared.ranges.CardRows.TheVariants.{Card, Entries, Targets}
 use Rattle.upd_memory.proofs.MirrorLemmas.{on_success}
 use Rattle.upd_memory.proofs.mirror.Mirror.take_gone.Goals as goal
 

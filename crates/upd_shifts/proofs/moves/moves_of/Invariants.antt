@@ -1,7 +1,0 @@
-use Rattle.std.proofs.Common.{◌≡◌, map, take}
-use Rattle.upd_records.specs.Changes.{change_view}
-use Rattle.upd_shifts.specs.Shifts.{as_change}
-use Rattle.upd_shifts.proofs.moves.moves_of.Given as goal
-
-abbrev pub invariant-loop-change : goal.invariant-loop-change
-invariant-loop-change l = map change_view (take l.change-index l.changes) ≡ map (as_change l.deck) l.moves.items

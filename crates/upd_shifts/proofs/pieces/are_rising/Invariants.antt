@@ -1,6 +1,0 @@
-use Rattle.std.proofs.Common.{drop}
-use Rattle.upd_shifts.specs.Shifts.{Rises}
-use Rattle.upd_shifts.proofs.pieces.are_rising.Given as goal
-
-abbrev pub invariant-loop-m : goal.invariant-loop-m
-invariant-loop-m l = Rises l.last (drop l.m-index l.moves) → Rises 0 l.moves

@@ -1,7 +1,0 @@
-use Rattle.std.proofs.Common.{sym}
-use Rattle.std.proofs.lemmas.List.Sorted.{list_any-IsPermutation}
-use Rattle.upd_shifts.specs.Ranges.{in_range}
-use Rattle.upd_shifts.proofs.ranges.from_last.Goals as goal
-
-pub returns : goal.returns
-returns c = λ x. sym (list_any-IsPermutation (λ range. in_range range x) c.args.ranges.items c.reverse.new.self.items c.reverse.ensures.permutation)

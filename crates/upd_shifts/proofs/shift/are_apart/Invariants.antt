@@ -1,6 +1,0 @@
-use Rattle.std.proofs.Common.{None, drop}
-use Rattle.upd_shifts.specs.Shifts.{IsChain}
-use Rattle.upd_shifts.proofs.shift.are_apart.Given as goal
-
-abbrev pub invariant-loop-shift : goal.invariant-loop-shift
-invariant-loop-shift l = IsChain l.last (drop l.shift-index l.shifts) → IsChain None l.shifts
