@@ -88,20 +88,6 @@ front_all (Ask query) old mid new first none waits front other = subst (TakesFro
 
 -- ---- how the end is told
 
--- a status that is told of a command that ended with 0, or failed
-pub ended_well : (ended : Result ℕ Fault) (status : ℕ) (faults faults' : Option (List ℕ)) → IsEndOf ended status faults faults'
-    → IfOk ended (λ meant. meant ≡ 0) → IfErr ended (λ fault. exit_status fault.kind ≡ 3) → (status ≡ 0) ⊎ (status ≡ 3)
-ended_well (Ok meant) status faults faults' told zero failed = inl (told.0 ∙ zero)
-ended_well (Err fault) status faults faults' (inl told) zero failed = inr (told.0 ∙ failed)
-ended_well (Err fault) status faults faults' (inr told) zero failed = inr told.0
-
--- such a status is not that of a refusal or a mistake
-pub not_refused : (P Q : Type 0) (status : ℕ) → (status ≡ 0) ⊎ (status ≡ 3) → (status ≡ 2) ⊎ ((status ≡ 1) × P) → Q
-not_refused P Q status (inl zero) (inl two) = absurd (omega (arith, zero, two))
-not_refused P Q status (inl zero) (inr one) = absurd (omega (arith, zero, one.0))
-not_refused P Q status (inr three) (inl two) = absurd (omega (arith, three, two))
-not_refused P Q status (inr three) (inr one) = absurd (omega (arith, three, one.0))
-
 -- where a command is refused without a word on the output, or makes a mistake, nothing is there
 pub silent_end : (Same Writes : Type 0) (ended : Result ℕ Fault) (status : ℕ) (faults faults' : Option (List ℕ)) → IsEndOf ended status faults faults'
     → IfOk ended (λ meant. (meant ≡ 2) ⊎ ((meant ≡ 1) × ¬ Writes) → Same) → IfErr ended (λ fault. exit_status fault.kind ≡ 1 → Writes ⊎ Same)

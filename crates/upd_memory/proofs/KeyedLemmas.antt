@@ -150,11 +150,6 @@ module _ {K R : Type 0} (has : K → R → Bool) where
 
 -- ---- one row after the other
 
-pub one_taken : {A : Type 0} (front xs : List A) (i : ℕ) (x : A) → i < length xs → x ≡ get_or xs i x
-    → (front ++ take i xs) ++ x ∷ [] ≡ front ++ take (i + 1) xs
-one_taken front xs i x inside is =
-    append_assoc front (take i xs) (x ∷ []) ∙ ap (λ ys. front ++ ys) (ap (λ y. take i xs ++ y ∷ []) is ∙ sym (take_more xs i x inside))
-
 pub one_made : {A B : Type 0} (f : A → B) (front : List B) (xs : List A) (i : ℕ) (x : A) → i < length xs → x ≡ get_or xs i x
     → (front ++ map f (take i xs)) ++ f x ∷ [] ≡ front ++ map f (take (i + 1) xs)
 one_made f front xs i x inside is =

@@ -11,6 +11,7 @@ pub mod list_store;
 pub mod list_tables;
 mod made;
 pub mod mirror;
+mod mirror_rows;
 pub mod mirror_store;
 mod moved_idents;
 mod row_copies;

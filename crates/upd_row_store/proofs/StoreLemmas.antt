@@ -146,16 +146,6 @@ module _ {S : Type 0} {meaning : Ghosts S} where
         most_later r (decks_read_of old) (decks_read_of mid) (decks_read_of new) (reads_most r _ _ left.reads) (less honest l sound whole shown);
   }
 
-  -- and a read that failed
-  pub deck_failed : {A : Type 0} (f : Fault) (old new : S) → LeavesRead meaning {A = A} (Err f) old new → LeavesDeck meaning (Err f) old new
-  deck_failed f old new left = record {
-    opens = left.opens;
-    same = left.same;
-    lost = left.lost;
-    failed = left.failed;
-    reads = λ honest l sound whole shown. omega (arith, left.unread);
-  }
-
   -- memory ran out
   pub deck_lost : (r : Result LibraryView Fault) (old new : S) → IsErrAnd r (λ e. e ≡ fault_at NoMemory 0) → Keeps meaning old new
       → failures_of new ≡ failures_of old → decks_read_of new ≡ decks_read_of old → LeavesDeck meaning r old new

@@ -8,6 +8,7 @@ mod one_open;
 mod row_store;
 mod sql_store;
 mod store_faults;
+mod tree_columns;
 mod tree_finds;
 mod tree_library;
 mod tree_opening;

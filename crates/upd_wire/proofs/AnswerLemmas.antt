@@ -1,46 +1,16 @@
 -- A request and its answer.
-use Rattle.std.proofs.Common.{
-  ◌≡◌,
-  ◌⊎◌,
-  ◌≤◌,
-  ◌+◌,
-  inl,
-  inr,
-  ℕ,
-  List,
-  [],
-  Option,
-  Some,
-  None,
-  Result,
-  Ok,
-  Err,
-  IfOk,
-  IfErr,
-  IsErrAnd,
-  refl,
-  sym,
-  subst,
-  ap,
-  ◌∙◌,
-  arith,
-}
-use Rattle.upd_wire.proofs.Common.{Asked, asked, ExchangeView, IsAskOf, asked_of, IsFailure, IsRead, Says, DeskCall, Refusal, Fault, Response, Made}
+use Rattle.std.proofs.Common.{◌≡◌, ◌⊎◌, ◌≤◌, ◌+◌, inl, inr, ℕ, List, [], Option, None, Result, Ok, Err, IfOk, IfErr, IsErrAnd, refl, sym, subst, ap}
+use Rattle.std.proofs.Common.{◌∙◌, arith}
+use Rattle.upd_wire.proofs.Common.{Asked, asked, ExchangeView, asked_of, IsFailure, IsRead, Says, DeskCall, Refusal, Fault, Response}
 use Rattle.upd_wire.proofs.Common.{no_memory, answer_seen, response, Answer}
 use Rattle.upd_wire.specs.LogLines.{Exchanges, SaysAsked, WritesLine}
 use Rattle.upd_wire.specs.Responses.{refusal_answer}
-use Rattle.upd_wire.specs.Serving.{AnswersRequest, IsAsked, IsFailed, read_failed}
+use Rattle.upd_wire.specs.Serving.{AnswersRequest, IsFailed, read_failed}
 
 -- a result that is this fault
 pub fault_is : {T : Type 0} (result : Result T Fault) (fault : Fault) → IsErrAnd result (λ e. e ≡ fault) → result ≡ Err fault
 fault_is (Ok x) fault is = absurd is
 fault_is (Err e) fault is = ap Err is
-
--- the desk was asked what the input says
-pub answers_call : (input : List ℕ) (call : Asked) (made : Made) (answer : Result Response Fault) → Says input (Ok call) → IsAsked call made answer
-    → AnswersRequest input made answer
-answers_call input call made answer says (inl (told, is, answered)) = inr (inl (call, told, says, is, answered))
-answers_call input call made answer says (inr (none, is)) = inr (inr (none, inr (inl is)))
 
 -- the input is refused, or can't be read
 refused : (input : List ℕ) (refusal : Refusal) (answer : Result Response Fault) → IsFailure refusal ⊎ Says input (Err refusal) → answer ≡ refusal_answer refusal
@@ -55,11 +25,6 @@ pub answers_refusal : (input : List ℕ) (refusal : Refusal) (result : Result An
 answers_refusal input refusal (Ok a) says ok err = refused input refusal (Ok (response a)) says (sym ok)
 answers_refusal input refusal (Err e) says ok (inl wanting) = inr (inr (refl, inr (inl (ap Err wanting))))
 answers_refusal input refusal (Err e) says ok (inr is) = refused input refusal (Err e) says (sym is)
-
--- what the desk was asked is what the request asks
-pub asks_of : (call : Asked) (made : Made) (answer : Result Response Fault) → IsAsked call made answer → IsAskOf (Some call) made
-asks_of call made answer (inl (told, is, answered)) = subst (IsAskOf (Some call)) (sym is) refl
-asks_of call made answer (inr (none, is)) = subst (IsAskOf (Some call)) (sym none) tt
 
 -- what was read is what the input asks
 pub read_says : (input : List ℕ) (request : Result DeskCall Refusal) → IsRead asked input request → SaysAsked input (asked_of request)

@@ -1,6 +1,6 @@
 use Rattle.upd_memory.proofs.Common.{refl, arith, inl}
 use Rattle.upd_row_store.proofs.StoreLemmas.{deck_lost}
-use Rattle.upd_memory.proofs.mirror_store.MirrorStoreRowStore.load_deck_of.Goals as goal
+use Rattle.upd_memory.proofs.mirror_rows.MirrorStoreRowStore.load_deck_of.Goals as goal
 
 pub returns-in_err-library-clause-leaves : goal.returns-in_err-library-clause-leaves
 returns-in_err-library-clause-leaves g c = deck_lost c.from_residual.result _ _ c.from_residual.ensures.1 (record {

@@ -1,5 +1,5 @@
 use Rattle.upd_memory.proofs.Common.{refl, arith, inl, load_lost}
-use Rattle.upd_memory.proofs.mirror_store.MirrorStoreRowStore.load_decks.Goals as goal
+use Rattle.upd_memory.proofs.mirror_rows.MirrorStoreRowStore.load.Goals as goal
 
 pub returns-in_err-library-clause-leaves : goal.returns-in_err-library-clause-leaves
 returns-in_err-library-clause-leaves g c = load_lost c.from_residual.result _ _ c.from_residual.ensures.1 (record {
