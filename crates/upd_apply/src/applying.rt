@@ -99,10 +99,10 @@ pub fn reach(alloc: Global, library: &Library, run: &Run) -> Result<ReachedLibra
 /// ```text
 /// UNITS 1, ORBIT 2, P1 3, P2 4    purge_back(library, 3) purges P1 and P2
 /// ```
-pub fn purge_back(library: &mut Library, age: Serial)
-    ensures { library.new ≡ purged_back age library.old }
+pub fn purge_back(library: &mut Library, serial: Serial)
+    ensures { library.new ≡ purged_back serial library.old }
 {
-    library.purge_from(age);
+    library.purge_from(serial);
 }
 
 /// Applies the lines in order, up to the first refusal.

@@ -95,8 +95,8 @@ fn is_deck_in_any(ident: &Ident, ranges: &[AgeRange]) -> bool
 }
 
 /// Whether a serial is in any of these ranges.
-fn is_in_any(ranges: &[AgeRange], age: Serial) -> bool
-    ensures { result ≡ list_any (λ r. is_in r age) ranges.now }
+fn is_in_any(ranges: &[AgeRange], serial: Serial) -> bool
+    ensures { result ≡ list_any (λ r. is_in r serial) ranges.now }
 {
-    ranges.iter().any(|range| range.has(age))
+    ranges.iter().any(|range| range.has(serial))
 }

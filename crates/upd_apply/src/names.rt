@@ -27,10 +27,10 @@ impl Model for AgeRange {
 
 impl AgeRange {
     /// Whether a serial is in the range.
-    pub(crate) fn has(&self, age: Serial) -> bool
-        ensures { result ≡ is_in self.now age }
+    pub(crate) fn has(&self, serial: Serial) -> bool
+        ensures { result ≡ is_in self.now serial }
     {
-        self.from <= age && age <= self.to
+        self.from <= serial && serial <= self.to
     }
 }
 

@@ -189,36 +189,36 @@ fn add_sets(
 }
 
 /// Adds an ident that isn't in `found` yet.
-fn add_set(found: &mut Vec<Target>, marks: &mut Vec<bool>, age: Serial) -> Result<(), AllocError>
+fn add_set(found: &mut Vec<Target>, marks: &mut Vec<bool>, serial: Serial) -> Result<(), AllocError>
     requires marked { AreMarked marks.old.items found.old.items }
     requires apart { once is_same found.old.items ≡ found.old.items }
-    ensures set { OnOk result (found.new.items ≡ once is_same (found.old.items ++ Set age ∷ [])) }
+    ensures set { OnOk result (found.new.items ≡ once is_same (found.old.items ++ Set serial ∷ [])) }
     ensures marked { OnOk result (AreMarked marks.new.items found.new.items) }
 {
-    if !has_set(marks, age) {
-        mark(marks, age)?;
-        found.push(Target::Set(age))?;
+    if !has_set(marks, serial) {
+        mark(marks, serial)?;
+        found.push(Target::Set(serial))?;
     }
     Ok(())
 }
 
 /// The flag of a serial; false past the last flag.
-fn has_set(marks: &[bool], age: Serial) -> bool
-    ensures { result ≡ has_set marks.now age }
+fn has_set(marks: &[bool], serial: Serial) -> bool
+    ensures { result ≡ has_set marks.now serial }
 {
-    let age = age as usize;
-    age < marks.len() && marks[age]
+    let serial = serial as usize;
+    serial < marks.len() && marks[serial]
 }
 
 /// Sets the flag of a serial.
-fn mark(marks: &mut Vec<bool>, age: Serial) -> Result<(), AllocError>
-    ensures { OnOk result ((z : ℕ) → has_set marks.new.items z ≡ (has_set marks.old.items z || (z == age))) }
+fn mark(marks: &mut Vec<bool>, serial: Serial) -> Result<(), AllocError>
+    ensures { OnOk result ((z : ℕ) → has_set marks.new.items z ≡ (has_set marks.old.items z || (z == serial))) }
 {
-    let age = age as usize;
-    if marks.len() <= age {
-        marks.resize(age + 1, false)?;
+    let serial = serial as usize;
+    if marks.len() <= serial {
+        marks.resize(serial + 1, false)?;
     }
-    marks[age] = true;
+    marks[serial] = true;
     Ok(())
 }
 

@@ -58,7 +58,8 @@ pub(crate) fn on_library<St: Start, R: Read, W: Write, E: Write>(
     }
 }
 
-/// The same, once the text is read that is read first. The file of `correct` may have a listing in place of a library.
+/// Carries out a command on the library in a file, once the text is read that is read first. The file of `correct` may have a
+/// listing in place of a library.
 fn with_text<St: Start, R: Read, W: Write, E: Write>(
     rt: &HostRuntime,
     file: &str,

@@ -9,7 +9,7 @@ ghost use Rattle.upd_compile.specs.Positions.{called_position, called_positions}
 ghost use Rattle.upd_compile.specs.Reach.{is_flagged};
 
 use crate::callers::callers;
-use crate::flags::{both, calls_flagged};
+use crate::flags::{and_flags, calls_flagged};
 use crate::idents::ident_at;
 use crate::indexed::Indexed;
 use crate::reach::reached_positions;
@@ -96,7 +96,7 @@ pub(crate) fn chain_flags(
     let calls = calls(alloc, source)?;
     let passed = passing_flags(alloc, source)?;
     let callers = callers(alloc, &calls, &passed)?;
-    let seeds = both(alloc, &passed, changed)?;
+    let seeds = and_flags(alloc, &passed, changed)?;
     let flags = reached_positions(alloc, &callers, seeds)?;
     calls_flagged(alloc, &calls, &flags)
 }

@@ -7,7 +7,11 @@ ghost use Rattle.upd_compile.specs.Reach.{is_flagged};
 use std::alloc::{AllocError, Global};
 
 /// The conjunction of two lists of flags.
-pub(crate) fn both(alloc: Global, left: &[bool], right: &[bool]) -> Result<Vec<bool>, AllocError>
+pub(crate) fn and_flags(
+    alloc: Global,
+    left: &[bool],
+    right: &[bool],
+) -> Result<Vec<bool>, AllocError>
     ensures { IfOk result (λ flags. flags.items ≡ map (λ pair. pair.0 && pair.1) (zip left.now right.now)) }
 {
     left.iter()

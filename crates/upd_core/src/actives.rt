@@ -47,7 +47,7 @@ pub struct Actives {
     pub decks: Vec<ActiveDeck>,
 }
 
-// Written by hand, so that a caller does not prove again how each deck is dropped.
+// By hand: see CONTRIBUTING.md.
 impl Drop for Actives {
     fn drop(self) {
         let Actives {

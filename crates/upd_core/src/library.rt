@@ -46,7 +46,7 @@ pub struct Library {
     pub(crate) counts: Counts,
 }
 
-// Written by hand, so that a caller does not prove again how each part is dropped.
+// By hand: see CONTRIBUTING.md.
 impl Drop for Library {
     fn drop(self) {
         let Library {

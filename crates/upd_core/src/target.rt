@@ -14,7 +14,7 @@ use crate::ident::Serial;
 pub enum Target {
     /// All that an ident, a set or a deck, introduced and switched; `set z` in listings.
     Set(Serial),
-    /// The same in one deck: the ident, then the deck.
+    /// All that an ident introduced and switched in one deck: the ident, then the deck.
     SetIn(Serial, Serial),
     /// All cards of a deck.
     Deck(Serial),

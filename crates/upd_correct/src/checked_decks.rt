@@ -33,7 +33,7 @@ fn is_deck_left(named: &[Serial], old: &Deck, new: &Deck) -> bool
     is_same_deck(old, new)
 }
 
-/// The same for all decks.
+/// Whether each deck keeps its serial, and is as it was unless it is among the named ones.
 pub(crate) fn are_decks_left(named: &[Serial], olds: &[Deck], news: &[Deck]) -> bool
     ensures { IsTrue result → AllZip (IsDeckLeft named.now) olds.now news.now }
 {

@@ -150,7 +150,7 @@ fn has_texts(
     Ok(are_texts_of(&texts, deck))
 }
 
-/// The same for all decks of a text.
+/// Whether the decks of a text have the texts of their lines.
 pub(crate) fn have_texts(
     alloc: Global,
     after: &Library,

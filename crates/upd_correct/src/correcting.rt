@@ -60,7 +60,7 @@ pub fn correct(
     correct_by(alloc, library, &Form::of(Deletions::Ranges), set, text)
 }
 
-/// The same, with the form of the run.
+/// The run that `correct` makes, and its form.
 pub(crate) fn correct_by(
     alloc: Global,
     library: &Library,

@@ -167,13 +167,19 @@ fn push_listed(
 }
 
 /// The card with the serial of its ident, which switched it off where it isn't active.
-fn aged_card(alloc: Global, age: Serial, listed: &ListedCard) -> Result<Card, AllocError>
-    ensures { IfOk result (λ card. card ≡ aged_card age listed.now) }
+fn aged_card(alloc: Global, serial: Serial, listed: &ListedCard) -> Result<Card, AllocError>
+    ensures { IfOk result (λ card. card ≡ aged_card serial listed.now) }
 {
-    let mut card = Card::new(alloc, age, listed.card.number, listed.text, Vec::new(alloc))?;
+    let mut card = Card::new(
+        alloc,
+        serial,
+        listed.card.number,
+        listed.text,
+        Vec::new(alloc),
+    )?;
     if !listed.active {
         card.history.push(Entry {
-            ident: age,
+            ident: serial,
             active: false,
         })?;
     }

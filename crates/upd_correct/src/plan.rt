@@ -112,9 +112,9 @@ pub(crate) fn corrections_for<'a>(
 ) -> Result<Vec<Correction<'a>>, AllocError> {
     let mut corrections = Vec::new(alloc);
     for deck in decks {
-        if let Some(age) = library.deck_of(&deck.name) {
-            let cards = library.cards_of(age);
-            corrections.push(correction_of(alloc, live, age, cards, deck)?)?;
+        if let Some(serial) = library.deck_of(&deck.name) {
+            let cards = library.cards_of(serial);
+            corrections.push(correction_of(alloc, live, serial, cards, deck)?)?;
         }
     }
     Ok(corrections)
@@ -124,19 +124,19 @@ pub(crate) fn corrections_for<'a>(
 fn correction_of<'a>(
     alloc: Global,
     live: &Live,
-    age: Serial,
+    serial: Serial,
     cards: &'a [Card],
     deck: &EditedDeck<'a>,
 ) -> Result<Correction<'a>, AllocError> {
     let segments = match cards {
         [] => Vec::new(alloc),
         [first, rest @ ..] => {
-            let matches = matches_of(alloc, live, age, rest, &deck.lines)?;
-            segments_for(alloc, live, age, first, rest, &matches, &deck.lines)?
+            let matches = matches_of(alloc, live, serial, rest, &deck.lines)?;
+            segments_for(alloc, live, serial, first, rest, &matches, &deck.lines)?
         }
     };
     Ok(Correction {
-        deck: age,
+        deck: serial,
         segments,
     })
 }

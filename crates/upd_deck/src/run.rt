@@ -40,7 +40,7 @@ pub struct Run<'a> {
     pub(crate) lines: Vec<Line<'a>>,
 }
 
-// Written by hand, so that a caller does not prove again how each item is dropped.
+// By hand: see CONTRIBUTING.md.
 impl Drop for Run<'_> {
     fn drop(self) {
         let Run { lines: _ } = self;

@@ -123,7 +123,7 @@ fn corrected_now(
     Ok(correct(alloc, library, set, text)?)
 }
 
-/// The same of a library as it was.
+/// The run for such a text of a library as it was.
 fn corrected_since(
     alloc: Global,
     library: &Library,

@@ -76,7 +76,7 @@ fn serial_since(library: &Library, since: &Option<Name>) -> Result<Serial, Fault
     }
 }
 
-/// The same, by the serial of the ident. The only error is NoMemory.
+/// The warnings of a run whose author has seen the idents up to a serial. The only error is NoMemory.
 fn warnings_since(
     alloc: Global,
     library: &Library,

@@ -31,13 +31,13 @@ pub fn findings(
 ) -> Result<Vec<u8>, AllocError>
     ensures { IfOk result (λ text. (length text.items ≡ 0) ↔ AreSoundRows rows.now states.now runs.now marks.now) }
 {
-    let sound = decided(alloc, rows, states, runs, marks)?;
-    let text = said(alloc, sound, rows, states, runs, marks)?;
+    let sound = are_sound(alloc, rows, states, runs, marks)?;
+    let text = findings_text(alloc, sound, rows, states, runs, marks)?;
     Ok(text)
 }
 
 /// Whether rows are sound; memory alone can fail.
-fn decided(
+fn are_sound(
     alloc: Global,
     rows: &LibraryRows,
     states: &States,
@@ -53,7 +53,7 @@ fn decided(
 }
 
 /// No text where rows are sound, else what is wrong with them.
-fn said(
+fn findings_text(
     alloc: Global,
     sound: bool,
     rows: &LibraryRows,
@@ -80,14 +80,14 @@ fn lines(
 ) -> Result<Vec<u8>, AllocError>
     ensures { IfOk result (λ text. 0 < length text.items) }
 {
-    match found_in(alloc, rows, states, runs, marks) {
+    match collect_findings(alloc, rows, states, runs, marks) {
         Ok(found) => found.into_text(alloc),
         Err(_) => Err(AllocError),
     }
 }
 
 /// The findings. The only error is NoMemory.
-fn found_in(
+fn collect_findings(
     alloc: Global,
     rows: &LibraryRows,
     states: &States,

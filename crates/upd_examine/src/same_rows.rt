@@ -5,7 +5,7 @@ ghost use Rattle.upd_records.specs.Rows.{IsSame, rows_of};
 ghost use Rattle.upd_row_store.specs.Assembling.{AreRowsOf};
 ghost use Rattle.upd_examine.specs.Findings.{AreLibraryRows};
 
-use crate::conjunctions::four_hold;
+use crate::conjunctions::all_four;
 use crate::line_texts::has_line_texts;
 use crate::own_rows::own_rows;
 use crate::row_keys::{card_keys, entry_keys, ident_keys, target_row_keys};
@@ -74,7 +74,7 @@ pub fn are_rows_of(alloc: Global, library: &Library, rows: &LibraryRows) -> Resu
     let cards = are_same_cards(alloc, &rows.cards, &own.cards)?;
     let entries = are_same_entries(alloc, &rows.entries, &own.entries)?;
     let targets = are_same_targets(alloc, &rows.targets, &own.targets)?;
-    Ok(four_hold(idents, cards, entries, targets))
+    Ok(all_four(idents, cards, entries, targets))
 }
 
 /// Whether rows are exactly those of a library, and it is sound, whole and within its limits, with the names, texts and
@@ -90,5 +90,5 @@ pub fn are_library_rows(
     let within = library.is_within_limits();
     let texts = has_line_texts(library);
     let own = are_rows_of(alloc, library, rows)?;
-    Ok(four_hold(sound, within, texts, own))
+    Ok(all_four(sound, within, texts, own))
 }

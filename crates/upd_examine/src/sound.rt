@@ -7,7 +7,7 @@ ghost use Rattle.upd_core.specs.Sound.{AreApart, IsSound, IsWhole, all_cards, ke
 ghost use Rattle.upd_examine.specs.SoundTests.{are_aged_from, are_parts_sound, has_no_targets, held_decks, is_card_sound, is_deck_sound};
 ghost use Rattle.upd_examine.specs.Whole.{IsDirectorySound};
 
-use crate::conjunctions::three_hold;
+use crate::conjunctions::all_three;
 use crate::sound_tests::{
     add_keys, are_aged, are_apart, are_yanks_in_order, begins_on, begins_with_its_own, deck_ages,
     held_decks, held_names, is_of_held,
@@ -49,7 +49,7 @@ pub fn is_directory_sound(alloc: Global, library: &Library) -> Result<bool, Allo
     let apart = are_names_apart(alloc, library)?;
     let aged = are_idents_aged(library);
     let free = is_yank_free(library);
-    Ok(three_hold(apart, aged, free))
+    Ok(all_three(apart, aged, free))
 }
 
 /// Whether the decks of a library are those that its directory holds, in order.

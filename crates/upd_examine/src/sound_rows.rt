@@ -5,7 +5,7 @@ ghost use Rattle.upd_text.specs.Faults.{fault_at};
 ghost use Rattle.upd_text.specs.declared.fault.FaultKind.TheVariants.{NoMemory};
 ghost use Rattle.upd_examine.specs.Findings.{AreSoundRows};
 
-use crate::conjunctions::four_hold;
+use crate::conjunctions::all_four;
 use crate::copies::copy_rows;
 use crate::grown::is_grown;
 use crate::same_rows::are_library_rows;
@@ -35,5 +35,5 @@ pub fn are_sound_rows(
     let grown = is_grown(&library);
     let right = are_states_of(alloc, &library, states)?;
     let kept = are_runs_sound(alloc, runs, marks)?;
-    Ok(four_hold(own, grown, right, kept))
+    Ok(all_four(own, grown, right, kept))
 }

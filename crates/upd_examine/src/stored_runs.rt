@@ -5,7 +5,7 @@ ghost use Rattle.upd_examine.specs.RunForms.{AreRunsSound, has_reply, is_above, 
 ghost use Rattle.upd_examine.specs.RunForms.{outcome_word, reply_end, reply_start, run_key};
 
 use crate::bytes::Bytes;
-use crate::conjunctions::four_hold;
+use crate::conjunctions::all_four;
 use crate::sound_tests::are_apart;
 use itoa::Buffer;
 use std::alloc::{AllocError, Global};
@@ -99,7 +99,7 @@ fn is_run_right(alloc: Global, marks: &[MarkRow], run: &RunRow) -> Result<bool, 
     let key = is_key(run.site.as_bytes(), run.number);
     let above = is_above(marks, run);
     let reply = has_reply(alloc, run)?;
-    Ok(four_hold(key, above, run.mode <= 2, reply))
+    Ok(all_four(key, above, run.mode <= 2, reply))
 }
 
 /// Whether each stored run is right.
@@ -145,5 +145,5 @@ pub fn are_runs_sound(alloc: Global, runs: &[RunRow], marks: &[MarkRow]) -> Resu
     let sites = are_apart(sites_of(alloc, marks)?);
     let keys = are_apart(run_keys(alloc, runs)?);
     let each = are_each_right(alloc, marks, runs)?;
-    Ok(four_hold(marked, sites, keys, each))
+    Ok(all_four(marked, sites, keys, each))
 }

@@ -11,7 +11,7 @@ ghost use Rattle.upd_records.specs.Rows.{IsSame};
 ghost use Rattle.upd_yank.specs.Right.{AreStatesOf, put_counts};
 ghost use Rattle.upd_examine.specs.StateTests.{AreCounts, is_count, own_state, own_states};
 
-use crate::conjunctions::three_hold;
+use crate::conjunctions::all_three;
 use crate::same_rows::are_same;
 use crate::sound_tests::are_apart;
 use std::alloc::{AllocError, Global};
@@ -123,7 +123,7 @@ fn are_counts(
     let each = are_each_right(cache, stored);
     let counts = by_target(alloc, stored)?;
     let all = are_all_counted(cache, &counts, yanks);
-    Ok(three_hold(apart, each, all))
+    Ok(all_three(apart, each, all))
 }
 
 /// Whether these two hold.

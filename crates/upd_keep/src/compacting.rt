@@ -146,7 +146,7 @@ fn made_in<S: Rising, T: Rising + Drop>(
     }
 }
 
-/// The same in memory. Its pages have sums.
+/// A library made in memory, with the rows of another. Its pages have sums.
 fn made_anew<S: Rising>(
     alloc: Global,
     tables: StoredTables,

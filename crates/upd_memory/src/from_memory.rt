@@ -186,7 +186,7 @@ impl Mirror {
         Ok(decks_by_age(ages))
     }
 
-    /// The same, and whether `YANK$$$` holds one of them; memory alone can fail.
+    /// The decks that hold one of these cards, and whether `YANK$$$` does; memory alone can fail.
     pub(crate) fn homes_of(&self, alloc: Global, cards: &[CardRef]) -> Result<Homes, AllocError>
         ensures { (rows : Rows) → Agrees self.now rows → (l : LibraryView) → IsSound l → Shows rows l
             → IfOk result (λ found. AreHomes cards.now l found) }
@@ -214,7 +214,7 @@ impl Mirror {
         Ok(Actives { idents, decks })
     }
 
-    /// The same of cards in any order: they are copied and sorted.
+    /// The active cards, of cards in any order: they are copied and sorted.
     fn actives_sorted(&self, alloc: Global) -> Result<Actives, AllocError>
         ensures { (rows : Rows) → Agrees self.now rows → (l : LibraryView) → IsSound l → Shows rows l
             → ShowsStates rows l

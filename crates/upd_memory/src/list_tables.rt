@@ -36,7 +36,7 @@ pub struct ListTables {
     mirror: Option<Mirror>,
 }
 
-// Written by hand, so that a caller does not prove again how each table is dropped.
+// By hand: see CONTRIBUTING.md.
 impl Drop for ListTables {
     fn drop(self) {
         let ListTables {
@@ -207,7 +207,7 @@ impl ListTables {
         }
     }
 
-    /// The same, and whether `YANK$$$` holds one of them; memory alone can fail.
+    /// The decks that hold one of these cards, and whether `YANK$$$` does; memory alone can fail.
     pub(crate) fn homes_of(&self, alloc: Global, cards: &[CardRef]) -> Result<Homes, AllocError>
         ensures { (l : LibraryView) → IsSound l → Shows self.now l
             → IfOk result (λ found. AreHomes cards.now l found) }

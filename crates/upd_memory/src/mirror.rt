@@ -39,7 +39,7 @@ pub struct Mirror {
     pub(crate) counts: Vec<(Target, u32)>,
 }
 
-// Written by hand, so that a caller does not prove again how each part is dropped.
+// By hand: see CONTRIBUTING.md.
 impl Drop for Mirror {
     fn drop(self) {
         let Mirror {
@@ -292,7 +292,7 @@ pub(crate) fn made_of(alloc: Global, changes: &[Change]) -> Option<Mirror>
     changed(alloc, Some(Mirror::empty(alloc)), changes)
 }
 
-/// The same, of changes that fit the rows.
+/// A mirror after changes that fit its rows; none where there was none, or where memory runs out.
 pub(crate) fn carried(alloc: Global, mirror: Option<Mirror>, changes: &[Change]) -> Option<Mirror>
     ensures { (rows : Rows) → AgreesIfAny mirror rows → AllFit (map change_view changes.now) rows
         → AgreesIfAny result (done_all (map change_view changes.now) rows) }

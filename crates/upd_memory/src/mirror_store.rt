@@ -28,7 +28,7 @@ pub struct MirrorStore<S: RowStore> {
     ghost live: { is_live ≡ true → S.is_honest inner → S.is_open inner } by { →_prop (→_prop (S.open_once inner)) },
 }
 
-// Written by hand, so that a caller does not prove again how each part is dropped.
+// By hand: see CONTRIBUTING.md.
 impl<S: RowStore + Drop> Drop for MirrorStore<S> {
     fn drop(self) {
         let MirrorStore {

@@ -46,7 +46,7 @@ pub fn cards_named(alloc: Global, run: &Run<'_>) -> Result<Vec<CardRef>, AllocEr
     Ok(cards)
 }
 
-/// The same in the order of the lines, as often as they name them.
+/// The cards that the lines of a run name, in the order of the lines, as often as they name them.
 fn cards_by_line(alloc: Global, run: &Run<'_>) -> Result<Vec<CardRef>, AllocError>
     ensures { IfOk result (λ cards. cards.items ≡ cards_named run.now) }
 {

@@ -78,7 +78,7 @@ pub fn decks_by_age(ages: Vec<Serial>) -> Vec<Serial>
     ages
 }
 
-/// The same, and whether `YANK$$$` is among them.
+/// The decks of rows of cards by age, each once, and whether `YANK$$$` is among them.
 pub fn homes_by_age(ages: Vec<Serial>) -> Homes
     ensures { (cards : List CardRef) (rows : Rows) (l : LibraryView) → IsSound l → Shows rows l
         → AreDecksOf cards rows.cards ages.items → AreHomes cards l result }

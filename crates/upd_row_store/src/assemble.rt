@@ -192,7 +192,8 @@ fn idents_named(
         .collect(alloc)
 }
 
-/// The same decks. Where the idents are more than the cards, only those of the cards' names are put into a map.
+/// The decks in which cards stand. Where the idents are more than the cards, only those of the cards' names are put into a
+/// map.
 fn decks_among(
     alloc: Global,
     idents: &[Ident],
@@ -232,7 +233,7 @@ fn library_with(alloc: Global, idents: Vec<Ident>, decks: Vec<Deck>, rest: Rest)
     Library::of_parts(idents, decks, yanks, rest)
 }
 
-/// The same of the first of some decks, and of other decks but for their first.
+/// The library of a directory, with the first of some decks as `YANK$$$`, and other decks but for their first.
 fn library_beside(alloc: Global, idents: Vec<Ident>, decks: Vec<Deck>, others: Vec<Deck>) -> Library
     ensures { result ≡ record (library_of idents.items others.items) { yanks = (library_of idents.items decks.items).yanks } }
 {

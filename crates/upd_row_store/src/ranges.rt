@@ -152,7 +152,7 @@ pub fn gone_cards(alloc: Global, changes: &[Change]) -> Option<GoneCards>
     Some(gone)
 }
 
-/// The same as ranges.
+/// The cards of which rows go by changes, as ranges; none where a change is another one, or where memory runs out.
 pub fn gone_of(alloc: Global, changes: &[Change]) -> Option<Gone>
     ensures { IfSome result (λ gone. (rows : Rows) → without gone rows ≡ done_all (map change_view changes.now) rows) }
 {

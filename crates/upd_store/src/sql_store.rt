@@ -28,7 +28,7 @@ pub struct SqlStore<S: Rising> {
     ghost outside: { conn.in_transaction ≡ false },
 }
 
-// Written by hand, so that a caller does not prove again how each part is dropped.
+// By hand: see CONTRIBUTING.md.
 impl<S: Rising + Drop> Drop for SqlStore<S> {
     fn drop(self) {
         let SqlStore {

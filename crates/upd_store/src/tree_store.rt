@@ -27,7 +27,7 @@ pub struct TreeStore<S: Store> {
     ghost whole: { IsWhole (S.Store.view store) },
 }
 
-// Written by hand, so that a caller does not prove again how each part is dropped.
+// By hand: see CONTRIBUTING.md.
 impl<S: Store + Drop> Drop for TreeStore<S> {
     fn drop(self) {
         let TreeStore {

@@ -44,8 +44,8 @@ pub(crate) fn hand_in<S: RowStore, R: Read, W: Write>(
     write_answer(alloc, answer, output)
 }
 
-/// The same, where the run meets nothing that idents younger than SINCE have done. Else nothing is stored, and its
-/// conflicts go to the fault stream. IdentUnknown, at 0, where no held ident has SINCE's name.
+/// The run on the input arrives where it meets nothing that idents younger than SINCE have done. Else nothing is stored,
+/// and its conflicts go to the fault stream. IdentUnknown, at 0, where no held ident has SINCE's name.
 pub(crate) fn hand_in_since<S: RowStore, R: Read, W: Write, E: Write>(
     alloc: Global,
     desk: &mut Desk<S>,

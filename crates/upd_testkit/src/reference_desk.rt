@@ -32,7 +32,7 @@ pub struct ReferenceDesk {
     pub marks: Vec<(String, u64)>,
 }
 
-// Written by hand, so that a caller does not prove again how each part is dropped.
+// By hand: see CONTRIBUTING.md.
 impl Drop for ReferenceDesk {
     fn drop(self) {
         let ReferenceDesk {

@@ -9,7 +9,7 @@ use Rattle.upd_text.specs.Lines.{is_comment}
 use Rattle.upd_text.specs.Units.{Bytes}
 use Rattle.upd_core.specs.declared.ident.Ident.{Ident}
 use Rattle.upd_records.specs.Rows.{RunView}
-use Rattle.upd_views.specs.RunLines.{first_line, key_words, message, said}
+use Rattle.upd_views.specs.RunLines.{first_line, key_words, message, reply_value}
 
 -- whether a value is this text
 abbrev pub is_word : Bytes → Data → Bool
@@ -31,7 +31,7 @@ says_ident name value = option_map_or (is_among_words name) (option_and_then as_
 
 -- whether a stored run introduced an ident of this name
 abbrev pub introduces : Bytes → RunView → Bool
-introduces name r = r.accepted && says_ident name (said r.reply)
+introduces name r = r.accepted && says_ident name (reply_value r.reply)
 
 -- The run that introduced the youngest ident of a name: the last that introduced one, where each ident of the name has its run among these. Where one is
 -- missing, that may be the run.

@@ -16,8 +16,8 @@ use Rattle.upd_records.specs.Rows.{RunView, mode_word}
 use Rattle.upd_views.specs.Printed.{printed_field}
 
 -- the value of a reply; bytes that are no text of JSON have none
-abbrev pub said : List ℕ → Option Data
-said reply = if is_utf8 reply then read reply else None
+abbrev pub reply_value : List ℕ → Option Data
+reply_value reply = if is_utf8 reply then read reply else None
 
 -- a text as a word, with a blank before it; another value is no word
 abbrev pub word_of : Data → List ℕ
@@ -63,7 +63,7 @@ key_words r = printed_field r.site ++ 32 ∷ decimal r.number ++ 32 ∷ mode_wor
 
 -- the line of a run
 abbrev pub run_line : RunView → List ℕ
-run_line r = key_words r ++ outcome r.accepted (said r.reply) ++ message r.bytes ++ 10 ∷ []
+run_line r = key_words r ++ outcome r.accepted (reply_value r.reply) ++ message r.bytes ++ 10 ∷ []
 
 -- the lines of runs in order
 abbrev pub run_lines : List RunView → List ℕ

@@ -16,12 +16,12 @@ pub record SiteView : Type 0 where
   pub stored : ℕ
 
 -- two numbers of bytes together, or 2^64 - 1 where they are more
-abbrev pub both : ℕ → ℕ → ℕ
-both a b = min (a + b) (2 ^ 64 - 1)
+abbrev pub add_sizes : ℕ → ℕ → ℕ
+add_sizes a b = min (a + b) (2 ^ 64 - 1)
 
 -- what a stored run says of its site
 abbrev pub of_run : RunView → SiteView
-of_run r = record { site = r.site; mark = 0; greatest = r.number; stored = both (length r.bytes) (length r.reply) }
+of_run r = record { site = r.site; mark = 0; greatest = r.number; stored = add_sizes (length r.bytes) (length r.reply) }
 
 -- what a mark says of its site
 abbrev pub of_mark : MarkRow → SiteView

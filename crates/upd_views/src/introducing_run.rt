@@ -7,7 +7,7 @@ ghost use Rattle.serde_json.specs.View.{items_view, view};
 ghost use Rattle.upd_views.specs.IntroducingRun.{introducer, introducer_line, introduces, is_among_words, is_word};
 ghost use Rattle.upd_views.specs.IntroducingRun.{message_line, says_ident};
 
-use crate::runs::{first_line, push_key, push_message, said};
+use crate::runs::{first_line, push_key, push_message, reply_value};
 use serde_json::Value;
 use std::alloc::{AllocError, Global};
 use upd_core::{Ident, Name};
@@ -66,7 +66,7 @@ pub fn introduces(alloc: Global, run: &RunRow, name: &Name) -> Result<bool, Allo
     if !run.accepted {
         return Ok(false);
     }
-    let value = said(alloc, &run.reply)?;
+    let value = reply_value(alloc, &run.reply)?;
     Ok(says_ident(value.as_ref(), name))
 }
 

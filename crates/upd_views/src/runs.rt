@@ -3,7 +3,7 @@
 ghost use Rattle.std.specs.Prelude.{◌≡◌, ◌++◌, IfOk, IsPermutation, IsSorted, OnOk, option_map};
 ghost use Rattle.serde_json.specs.View.{items_view, view};
 ghost use Rattle.upd_views.specs.RunLines.{IsRunList, by_key, first_line, idents_said, key_words, message, outcome};
-ghost use Rattle.upd_views.specs.RunLines.{refusal_said, run_line, run_lines, said, trimmed, word_of, words_of};
+ghost use Rattle.upd_views.specs.RunLines.{refusal_said, reply_value, run_line, run_lines, trimmed, word_of, words_of};
 
 use crate::printing::push_field;
 use itoa::Buffer;
@@ -49,7 +49,7 @@ pub fn run_lines(alloc: Global, runs: &[RunRow]) -> Result<Vec<u8>, AllocError>
 fn push_run(alloc: Global, text: &mut Vec<u8>, run: &RunRow) -> Result<(), AllocError>
     ensures { OnOk result (text.new.items ≡ text.old.items ++ run_line run.now) }
 {
-    let value = said(alloc, &run.reply)?;
+    let value = reply_value(alloc, &run.reply)?;
     push_key(text, run)?;
     push_outcome(text, run.accepted, value.as_ref())?;
     push_message(text, &run.bytes)?;
@@ -66,8 +66,8 @@ pub(crate) fn push_key(text: &mut Vec<u8>, run: &RunRow) -> Result<(), AllocErro
 }
 
 /// The value of a reply, where it is one.
-pub(crate) fn said(alloc: Global, reply: &[u8]) -> Result<Option<Value>, AllocError>
-    ensures { IfOk result (λ value. option_map (λ v. view v) value ≡ said reply.now) }
+pub(crate) fn reply_value(alloc: Global, reply: &[u8]) -> Result<Option<Value>, AllocError>
+    ensures { IfOk result (λ value. option_map (λ v. view v) value ≡ reply_value reply.now) }
 {
     match Value::from_slice(alloc, reply) {
         Ok(value) => Ok(Some(value)),

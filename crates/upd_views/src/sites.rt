@@ -1,7 +1,7 @@
 //! One line for each site.
 
 ghost use Rattle.std.specs.Prelude.{◌≡◌, ◌∷◌, ◌++◌, decimal, map, IfOk, IsPermutation, OnOk};
-ghost use Rattle.upd_views.specs.SiteLines.{AreBySite, AreSiteLines, both, joined, lines_from, lines_of, next_number};
+ghost use Rattle.upd_views.specs.SiteLines.{AreBySite, AreSiteLines, add_sizes, joined, lines_from, lines_of, next_number};
 ghost use Rattle.upd_views.specs.SiteLines.{of_mark, of_run, site_line};
 ghost use Rattle.upd_views.specs.declared.sites.TheConstants.{MAX_NUMBER};
 
@@ -74,7 +74,7 @@ fn push_runs<'a>(sites: &mut Vec<Site<'a>>, runs: &'a [RunRow]) -> Result<(), Al
             site: run.site.as_str(),
             mark: 0,
             greatest: run.number,
-            stored: both(run.bytes.len() as u64, run.reply.len() as u64),
+            stored: add_sizes(run.bytes.len() as u64, run.reply.len() as u64),
         })?;
     }
     Ok(())
@@ -138,13 +138,13 @@ fn joined<'a>(a: &Site<'a>, b: &Site<'a>) -> Site<'a>
         site: a.site,
         mark: a.mark.max(b.mark),
         greatest: a.greatest.max(b.greatest),
-        stored: both(a.stored, b.stored),
+        stored: add_sizes(a.stored, b.stored),
     }
 }
 
 /// Two numbers of bytes together, or the greatest number where they are more.
-fn both(a: u64, b: u64) -> u64
-    ensures { result ≡ both a b }
+fn add_sizes(a: u64, b: u64) -> u64
+    ensures { result ≡ add_sizes a b }
 {
     a.saturating_add(b)
 }

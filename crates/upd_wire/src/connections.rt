@@ -35,7 +35,7 @@ const PIECE: usize = 65_536;
 /// How many reads of what a client still sends are discarded after an answer, where a clock ends them.
 const SURPLUS_READS: u32 = 4096;
 
-/// The same without a clock, where each read may take all of its time.
+/// How many such reads there are without a clock, where each may take all of its time.
 const UNTIMED_SURPLUS_READS: u32 = 64;
 
 /// How many failures to accept a connection in a row end a server that has a clock.

@@ -94,7 +94,7 @@ pub fn serve_one<R: Read, W: Write, S: RowStore>(
     sent
 }
 
-/// The same, with routes that were made before.
+/// Answers one request as `serve_one` does, with routes that were made before.
 pub(crate) fn serve_request<R: Read, W: Write, S: RowStore>(
     alloc: Global,
     routes: &RouteTable,

@@ -29,12 +29,12 @@ pub(crate) fn body_length(buf: &[u8], headers: &[HeaderSpan]) -> BodyLength
 {
     let mut found = BodyLength::Absent;
     'headers: for header in headers {
-        found = both(found, field_length(buf, header));
+        found = combine(found, field_length(buf, header));
     }
     found
 }
 
-fn both(one: BodyLength, other: BodyLength) -> BodyLength
+fn combine(one: BodyLength, other: BodyLength) -> BodyLength
     ensures { result ≡ both_say one other }
 {
     match (one, other) {

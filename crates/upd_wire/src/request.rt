@@ -43,7 +43,7 @@ pub fn read_call<R: Read>(
     read_request(alloc, routes, reader, &mut buf)
 }
 
-/// The same, with what was read with the head in `buf`, which is empty before.
+/// Reads a request, with what was read with its head in `buf`, which is empty before.
 pub(crate) fn read_request<R: Read>(
     alloc: Global,
     routes: &RouteTable,

@@ -36,7 +36,7 @@ pub enum View {
     Page,
     /// The active cards of a deck as plain text.
     Text(Name),
-    /// The same as it was when an ident was the youngest.
+    /// That text as it was when an ident was the youngest.
     TextAt { deck: Name, since: Name },
     /// The compile file of a deck alone.
     Source(Name),

@@ -19,7 +19,7 @@ ghost use Rattle.upd_yank.specs.Right.{IsRight, IsRunBetween, AreStatesOf, kept_
 
 use crate::cascade::{Before, update_statuses};
 use crate::renewing::renewed_decks;
-use crate::status_changes::tell;
+use crate::status_changes::row_changes;
 use crate::statuses::Statuses;
 use crate::touched_set::Touched;
 use std::alloc::{AllocError, Global};
@@ -35,7 +35,7 @@ pub struct Cache {
     work: u64,
 }
 
-// Written by hand, so that a caller does not prove again how each part is dropped.
+// By hand: see CONTRIBUTING.md.
 impl Drop for Cache {
     fn drop(self) {
         let Cache {
@@ -136,7 +136,7 @@ impl Cache {
             counts: &self.counts,
         };
         let left = update_statuses(self.alloc, counted, &before)?;
-        let changes = tell(self.alloc, &before, &left, &applied.changes)?;
+        let changes = row_changes(self.alloc, &before, &left, &applied.changes)?;
         self.work = left.found.statuses.len() as u64;
         self.statuses = left.statuses;
         self.counts = left.found.counts;

@@ -68,25 +68,25 @@ fn push_aged(
     statuses: &Statuses,
     part: &Library,
     before: &Actives,
-    age: Serial,
+    serial: Serial,
 ) -> Result<(), AllocError>
-    ensures { OnOk result (decks.new.items ≡ decks.old.items ++ deck_of_age statuses.now part.now before.now age) }
+    ensures { OnOk result (decks.new.items ≡ decks.old.items ++ deck_of_age statuses.now part.now before.now serial) }
 {
-    if let Some(deck) = deck_aged(part.decks(), age) {
+    if let Some(deck) = deck_aged(part.decks(), serial) {
         let anew = anew(alloc, statuses, part.idents(), deck)?;
         decks.push(anew)?;
-    } else if let Some(deck) = active_deck_aged(&before.decks, age) {
+    } else if let Some(deck) = active_deck_aged(&before.decks, serial) {
         let copy = deck.copy()?;
         decks.push(copy)?;
     }
     Ok(())
 }
 
-fn active_deck_aged(decks: &[ActiveDeck], age: Serial) -> Option<&ActiveDeck>
-    ensures { option_copied result ≡ find (is_active_deck age) decks.now }
+fn active_deck_aged(decks: &[ActiveDeck], serial: Serial) -> Option<&ActiveDeck>
+    ensures { option_copied result ≡ find (is_active_deck serial) decks.now }
 {
     for deck in decks {
-        if deck.ident == age {
+        if deck.ident == serial {
             return Some(deck);
         }
     }

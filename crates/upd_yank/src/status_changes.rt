@@ -16,7 +16,7 @@ use std::alloc::{AllocError, Global};
 use upd_core::{CardRef, Change, Target, TargetCounts};
 
 /// The row changes of a status update, to be carried out after those of its run.
-pub(crate) fn tell(
+pub(crate) fn row_changes(
     alloc: Global,
     before: &Before,
     left: &UpdatedStatuses,

@@ -12,6 +12,6 @@ pub returns : goal.returns
 returns c =
     let runs = c.args.runs.now in
     let marks = c.args.marks.now in
-    subst (λ r. IsTrue r ↔ AreRunsSound runs marks) (sym c.four_hold.ensures)
+    subst (λ r. IsTrue r ↔ AreRunsSound runs marks) (sym c.all_four.ensures)
     (runs_decided runs marks c.are_marks_right-marked.ensures c.in_ok-sites_of.ensures c.in_ok-run_keys.ensures c.are_apart-sites.ensures
     c.are_apart-keys.ensures c.in_ok-each.ensures)

@@ -1,6 +1,6 @@
 use Rattle.upd_examine.proofs.Common.{◌≡◌, length, rules}
 use Rattle.upd_examine.proofs.FindingLemmas.{empty_where_true, some_where_false}
-use Rattle.upd_examine.proofs.examining.said.Goals as goal
+use Rattle.upd_examine.proofs.examining.findings_text.Goals as goal
 
 pub returns-then-sound : goal.returns-then-sound
 returns-then-sound c =

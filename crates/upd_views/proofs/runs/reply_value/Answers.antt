@@ -3,7 +3,7 @@ use Rattle.std.specs.Str.{is_utf8}
 use Rattle.std.proofs.lemmas.Str.{IsUtf8-from_is_utf8, is_utf8-from_IsUtf8}
 use Rattle.serde_json.specs.Errors.{IsMemory}
 use Rattle.serde_json.specs.Read.{read}
-use Rattle.upd_views.proofs.runs.said.Goals as goal
+use Rattle.upd_views.proofs.runs.reply_value.Goals as goal
 
 pub returns-in-Ok : goal.returns-in-Ok
 returns-in-Ok c = rw (is_utf8-from_IsUtf8 c.args.reply.now c.in-Ok.ensures.ok.0) (sym c.in-Ok.ensures.ok.1)
