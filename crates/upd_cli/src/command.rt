@@ -6,7 +6,7 @@ ghost use Rattle.upd_subcommands.specs.Command.{IsReported};
 ghost use Rattle.upd_subcommands.specs.Inputs.{IsOf, IsSpool, UsesFaults, ReadsFor, WritesRefusals, most_read_for};
 ghost use Rattle.upd_subcommands.specs.Streams.{TakesFront, stream};
 
-use crate::desk_work::{FileRows, TreeRows, on_library};
+use crate::desk_work::{FileRows, TreeRows, run_on_file};
 use crate::examined::report_on;
 use crate::library_file::{backup_file, compact_file, init_file, migrate_file};
 use crate::replay_report::replay_on;
@@ -90,7 +90,7 @@ fn carry_out<St: Start, R: Read, W: Write, E: Write>(
         }
         Request::Init(file) => carry_out_init(rt, file, start, faults),
         Request::Library { file, command } => {
-            let (ended, left) = on_library(rt, file, start, command, input, output, faults);
+            let (ended, left) = run_on_file(rt, file, start, command, input, output, faults);
             (finish_with(ended, faults), left)
         }
         Request::Backup { file, copy } => {

@@ -30,7 +30,7 @@ pub(crate) type TreeRows<St> = MirrorStore<TreeStore<FileStore<FileFrom<St>>>>;
 
 /// Carries out a command on the library in a file, and returns the exit status, and the closed files where they were opened.
 /// What `try` and `correct` read is read before.
-pub(crate) fn on_library<St: Start, R: Read, W: Write, E: Write>(
+pub(crate) fn run_on_file<St: Start, R: Read, W: Write, E: Write>(
     rt: &HostRuntime,
     file: &str,
     start: St,
@@ -53,14 +53,14 @@ pub(crate) fn on_library<St: Start, R: Read, W: Write, E: Write>(
     ensures quiet { IfErr result.0 (λ _. ¬ UsesFaults command.now → faults.new ≡ faults.old) }
 {
     match read_first(rt.alloc(), command, input) {
-        Ok(text) => with_text(rt, file, start, command, &text, input, output, faults),
+        Ok(text) => run_with_text(rt, file, start, command, &text, input, output, faults),
         Err(fault) => (Err(fault), None),
     }
 }
 
 /// Carries out a command on the library in a file, once the text is read that is read first. The file of `correct` may have a
 /// listing in place of a library.
-fn with_text<St: Start, R: Read, W: Write, E: Write>(
+fn run_with_text<St: Start, R: Read, W: Write, E: Write>(
     rt: &HostRuntime,
     file: &str,
     start: St,
@@ -81,10 +81,10 @@ fn with_text<St: Start, R: Read, W: Write, E: Write>(
                 let status = correct_listing(rt.alloc(), &listing, set, text, output, faults);
                 (Ok(status), None)
             }
-            Ok(None) => at_desk(rt, file, start, command, text, input, output, faults),
+            Ok(None) => run_at_desk(rt, file, start, command, text, input, output, faults),
             Err(fault) => (Err(fault), None),
         },
-        _ => at_desk(rt, file, start, command, text, input, output, faults),
+        _ => run_at_desk(rt, file, start, command, text, input, output, faults),
     }
 }
 
@@ -107,7 +107,7 @@ fn purpose_of<'a>(command: &Command<'a>) -> Purpose<'a>
 /// opened. The fault is `SqlStore::open`'s where they can't be; then nothing is read or written.
 ///
 /// No other function opens the store of a desk. One that names it is dear to prove (docs/DECISIONS.md, D-100).
-fn at_desk<St: Start, R: Read, W: Write, E: Write>(
+fn run_at_desk<St: Start, R: Read, W: Write, E: Write>(
     rt: &HostRuntime,
     file: &str,
     start: St,

@@ -48,7 +48,7 @@ pub(crate) fn backup_file<St: Start>(
     }
 }
 
-/// Makes the library in the file anew in a copy: the same rows, with sums and no free page.
+/// Makes a copy of the library in the file from its rows, with sums and no free page.
 pub(crate) fn compact_file<St: Start>(
     rt: &HostRuntime,
     file: &str,

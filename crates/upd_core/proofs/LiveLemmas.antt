@@ -14,11 +14,11 @@ pub bad_before : (y : CardView) (later : List CardView) → is_good (targets_of 
 bad_before y later e = ap (λ b. if b then y ∷ later else later) e
 
 -- one card more: its liveness, and the targets of the live cards from it on
-pub swept-more : (yanks : List CardView) (live : List Bool) (targets : List Target) (i : ℕ) (b : Bool) (y : CardView) →
+pub flags-more : (yanks : List CardView) (live : List Bool) (targets : List Target) (i : ℕ) (b : Bool) (y : CardView) →
     i < length yanks → length live ≡ length yanks → y ≡ get_or yanks i y → drop (i + 1) live ≡ liveness (drop (i + 1) yanks) →
     targets ≡ targets_of (live_cards (drop (i + 1) yanks)) → b ≡ is_good targets 0 y →
     (drop i (set live i b) ≡ liveness (drop i yanks)) × (targets_of (live_cards (drop i yanks)) ≡ (if b then y.targets ++ targets else targets))
-swept-more yanks live targets i b y within lengths read flags taken good =
+flags-more yanks live targets i b y within lengths read flags taken good =
     let split : drop i yanks ≡ y ∷ drop (i + 1) yanks = drop_more yanks i y within ∙ ap (λ x. x ∷ drop (i + 1) yanks) (sym read) in
     (drop-set live i b (omega (arith, lengths)) ∙ rw (split, flags, good, taken) refl, rw (split, taken) (by_liveness b (good ∙ ap (λ t. is_good t 0 y) taken)))
   where

@@ -16,7 +16,7 @@ use crate::counts::Counts;
 use crate::deck::{Deck, card_index, deck_aged};
 use crate::decks::Decks;
 use crate::ident::{Ident, Serial, held_named};
-use crate::live::{Live, is_active, swept};
+use crate::live::{Live, is_active, live_flags};
 use std::alloc::Global;
 use std::marker::Model;
 use upd_text::{CardRef, Fault, Name};
@@ -224,7 +224,7 @@ impl Library {
         ensures ok { IfOk result (λ live. live ≡ live_of self.now) }
         ensures err { IsOkUnless result (fault_at NoMemory 0) }
     {
-        let (live, targets) = swept(*self.yanks.allocator(), &self.yanks)?;
+        let (live, targets) = live_flags(*self.yanks.allocator(), &self.yanks)?;
         Ok(Live {
             idents: &self.idents,
             yanks: &self.yanks,
@@ -260,7 +260,7 @@ impl Library {
         ensures err { IsOkUnless result (fault_at NoMemory 0) }
     {
         let alloc = *self.idents.allocator();
-        let (_, targets) = swept(alloc, &self.yanks)?;
+        let (_, targets) = live_flags(alloc, &self.yanks)?;
         let decks = active_decks(alloc, &targets, self.decks())?;
         Ok(ActivesRef {
             idents: &self.idents,

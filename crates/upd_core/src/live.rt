@@ -103,7 +103,7 @@ pub(crate) fn is_active(targets: &Targets, deck: Serial, card: &Card) -> bool
 
 /// Whether each yank card is live, and the targets of the live ones. The loop runs from the last card to the first:
 /// only younger cards can take what switched a card, so all that decides a card is known when the loop reaches it.
-pub(crate) fn swept(alloc: Global, yanks: &[Card]) -> Result<(Vec<bool>, Targets), AllocError>
+pub(crate) fn live_flags(alloc: Global, yanks: &[Card]) -> Result<(Vec<bool>, Targets), AllocError>
     ensures live { IfOk result (λ found. found.0.items ≡ liveness yanks.now) }
     ensures targets { IfOk result (λ found. found.1 ≡ targets_of (live_cards yanks.now)) }
 {

@@ -1,4 +1,4 @@
--- The run that is made from a deck's listing, or why there is none.
+-- The run that is made from a deck's listing, or why there isn't one.
 use Rattle.std.specs.Prelude.{◌≡◌, ℕ, ◌+◌, Bool, false, not, Option, Some, None}
 use Rattle.std.specs.Option.{option_map_or}
 use Rattle.std.specs.Str.{bytes_eq}

@@ -27,11 +27,11 @@ use upd_deck::read_run;
 const MAX_SERIES_BYTES: usize = 8;
 
 /// The shares of a run's limits that the parts of an edit may take, one after the other until each part fits. A run can
-/// be longer than its part of the edit: it is found anew, and may put the same lines in more places.
+/// be longer than its part of the edit: it is found again, and may put the same lines in more places.
 const SHARES: [usize; 3] = [1, 3, 9];
 
 /// The runs that lead the decks of an edited text to it one after the other, by the sets SET1, SET2 and so on. Where one
-/// run is enough, it is the only one, as `correct` makes it. Where nothing changes, there is none.
+/// run is enough, it is the only one, as `correct` makes it. Where nothing changes, there isn't one.
 ///
 /// Each run is made and applied to a copy of the library, and returned only if the last leads to the text and no other
 /// deck is changed. A run names a card of the one before it, so that it is refused where that one was. A text is refused as

@@ -14,7 +14,7 @@ use upd_text::limits::MAX_CARDS;
 use upd_text::line::split_once;
 use upd_text::{CardRef, Name};
 
-/// A card as its line in a listing tells it.
+/// A card as its line in a listing has it.
 #[derive(Drop)]
 pub(crate) struct ListedCard<'a> {
     pub(crate) active: bool,
@@ -83,7 +83,7 @@ fn listed_card<'a>(line: &'a [u8]) -> Option<ListedCard<'a>>
     Some(ListedCard { active, card, text })
 }
 
-/// The status that a word tells.
+/// The status that a word names.
 fn read_status(word: &[u8]) -> Option<bool>
     ensures { result ≡ status_read word.now }
 {

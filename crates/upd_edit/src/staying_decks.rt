@@ -11,7 +11,7 @@ use upd_records::RunRow;
 use upd_views::{introducer, introduces};
 
 /// All warnings of a run that is tried, as the stored runs have them: first that of a purge after SINCE. Of a deck that
-/// didn't come with the set that goes there is none.
+/// didn't come with the set that goes there isn't one.
 pub fn all_by_runs(
     alloc: Global,
     library: &Library,

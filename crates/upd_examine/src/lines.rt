@@ -3,7 +3,7 @@ ghost use Rattle.std.specs.Prelude.{◌<◌, length, IfOk};
 
 use std::alloc::{AllocError, Global};
 
-/// At most so many findings are listed.
+/// How many findings are listed at most.
 const MAX_LINES: usize = 100;
 
 /// Lines of text.

@@ -10,7 +10,7 @@ use upd_core::{Card, CardRef, Deck, Entry, Ident, Library, Serial, Target};
 use upd_records::{CardRow, EntryRow, LibraryRows, TargetRow};
 
 /// A place as rows have it. It returns `AllocError` for 2^32 and more.
-fn place(index: usize) -> Result<u32, AllocError>
+fn index_u32(index: usize) -> Result<u32, AllocError>
     ensures place { IfOk result (λ place. place ≡ index) }
     ensures err { OnErr result (2 ^ 32 ≤ index) }
 {
@@ -33,7 +33,7 @@ fn add_card_rows(
         rows.push(CardRow {
             card: card_ref(idents, card),
             deck,
-            pos: place(i)?,
+            pos: index_u32(i)?,
             body,
         })?;
     }
@@ -50,7 +50,7 @@ fn add_entry_rows(
     for (i, entry) in history.iter().enumerate() {
         rows.push(EntryRow {
             card,
-            ord: place(i)?,
+            ord: index_u32(i)?,
             entry: *entry,
         })?;
     }
@@ -67,7 +67,7 @@ fn add_target_rows(
     for (i, target) in targets.iter().enumerate() {
         rows.push(TargetRow {
             card,
-            ord: place(i)?,
+            ord: index_u32(i)?,
             target: *target,
         })?;
     }

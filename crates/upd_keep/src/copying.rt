@@ -102,7 +102,7 @@ fn write_new(rt: &HostRuntime, model: &str, path: &str, bytes: &[u8]) -> io::Res
     if is_no_path(path) || is_beside_file(rt, path)? {
         return Err(io::Error::from(ErrorKind::InvalidInput));
     }
-    if is_taken(rt, path) || is_taken(rt, log.as_str()) || is_taken(rt, journal.as_str()) {
+    if exists(rt, path) || exists(rt, log.as_str()) || exists(rt, journal.as_str()) {
         return Err(io::Error::from(ErrorKind::AlreadyExists));
     }
     write_part(rt, model, part.as_str(), bytes)?;
@@ -117,7 +117,7 @@ fn write_new(rt: &HostRuntime, model: &str, path: &str, bytes: &[u8]) -> io::Res
 }
 
 /// Whether there is anything at a path, be it a link.
-fn is_taken(rt: &HostRuntime, path: &str) -> bool {
+fn exists(rt: &HostRuntime, path: &str) -> bool {
     fs::symlink_metadata(rt, path).is_ok()
 }
 

@@ -166,7 +166,7 @@ pub place_in_hand : (lines : List LineView) (l : LibraryView) (s : State) (d aft
     → s.insert_point ≡ Inside d after → (h : CurrentSet) × (s.current_set ≡ Some h)
 place_in_hand lines l s d after sound h e = inside_in_hand s d after (steps_sound lines (started l) s (started_sound l sound) h) e
 
--- text has no place only where there is none
+-- text has no place only where there isn't one
 placeless : (text : List ℕ) (s : State) (point : InsertPoint) → s.insert_point ≡ point → IsSoundState s
     → carried_out (text_judged text point s.current_set) s ≡ Err fault.TextNowhere → point ≡ Nowhere
 placeless text s Nowhere e sound refused = refl

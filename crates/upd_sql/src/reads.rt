@@ -6,7 +6,7 @@ ghost use Rattle.upd_sql.specs.Commits.{Inside, Looks};
 
 use crate::decode::{first_mark, first_run};
 use crate::texts;
-use crate::values::{self, wide};
+use crate::values::{self, integer_of};
 use crate::whole::rows_of;
 use sqlite::{Alter, Error, Transaction};
 use std::alloc::Global;
@@ -29,7 +29,7 @@ pub(crate) fn run_in<S: Alter>(
 ) -> Result<Option<RunRow>, Error>
     ensures { Inside (state S.Store) (Looks (λ it run. run ≡ run_at site.now number it)) tx.old.conn tx.new.conn result }
 {
-    let number = wide(number)?;
+    let number = integer_of(number)?;
     let rows = rows_of(tx, texts::RUN_OF_KEY, &[values::site(site), number])?;
     first_run(alloc, &rows)
 }

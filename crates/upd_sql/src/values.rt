@@ -57,7 +57,7 @@ pub(crate) fn blob(bytes: &[u8]) -> ValueRef<'_>
 }
 
 /// A number of 64 bits, which the tables hold up to 2^63 - 1.
-pub(crate) fn wide(n: u64) -> Result<ValueRef<'static>, Error>
+pub(crate) fn integer_of(n: u64) -> Result<ValueRef<'static>, Error>
     ensures value { IfOk result (λ v. owned v ≡ num n) }
     ensures failed { IfErr result (λ e. (2 ^ 63 ≤ n) × (e ≡ Error.SqliteFailure ErrorCode.TooBig)) }
 {

@@ -13,7 +13,7 @@ ghost use Rattle.upd_sql.specs.Commits.{CountsStatuses, Inside, WasOpen};
 ghost use Rattle.upd_sql.specs.LibraryTables.{AnyTables, HoldsTables};
 
 use crate::texts;
-use crate::values::{self, blob, codes_of, flag, kind, name, number, text, wide};
+use crate::values::{self, blob, codes_of, flag, integer_of, kind, name, number, text};
 use sqlite::{Alter, Error, Transaction};
 use upd_core::{CardRef, Entry, Ident, Name, Serial, Target};
 use upd_records::RunRow;
@@ -156,7 +156,7 @@ pub(crate) fn insert_run<S: Alter>(tx: &mut Transaction<'_, S>, row: &RunRow) ->
     ensures makes { Inside (state S.Store) (Makes HoldsTables AnyTables (with_run row.now)) tx.old.conn tx.new.conn result }
     ensures was_open { WasOpen (state S.Store tx.old.conn.now) (state S.Store tx.new.conn.now) result }
 {
-    let run_number = wide(row.number)?;
+    let run_number = integer_of(row.number)?;
     run(
         tx,
         texts::INSERT_RUN,
@@ -256,7 +256,7 @@ pub(crate) fn insert_mark<S: Alter>(
     ensures makes { Inside (state S.Store) (Makes HoldsTables AnyTables (with_mark site.now mark)) tx.old.conn tx.new.conn result }
     ensures was_open { WasOpen (state S.Store tx.old.conn.now) (state S.Store tx.new.conn.now) result }
 {
-    let mark_value = wide(mark)?;
+    let mark_value = integer_of(mark)?;
     run(tx, texts::INSERT_MARK, &[values::site(site), mark_value])
 }
 
@@ -273,7 +273,7 @@ pub(crate) fn delete_runs<S: Alter>(
 ) -> Result<(), Error>
     ensures { Inside (state S.Store) (Makes HoldsTables AnyTables (without_runs site.now number)) tx.old.conn tx.new.conn result }
 {
-    let up_to = wide(number)?;
+    let up_to = integer_of(number)?;
     run(tx, texts::DELETE_RUNS, &[values::site(site), up_to])
 }
 
@@ -287,7 +287,7 @@ pub(crate) fn move_back<S: Alter>(
     ensures { Inside (state S.Store) (Makes HoldsTables (Fits (CardsMoved deck from (pos by))) (done (CardsMoved deck from (pos by))))
         tx.old.conn tx.new.conn result }
 {
-    let distance = wide(by)?;
+    let distance = integer_of(by)?;
     run(
         tx,
         texts::MOVE_BACK,
@@ -306,7 +306,7 @@ pub(crate) fn move_back_of<S: Alter>(
 ) -> Result<(), Error>
     ensures { Inside (state S.Store) (Makes HoldsTables (CanMoveOf (ident.now, least) deck from by) (with_moved (ident.now, least) deck from by)) tx.old.conn tx.new.conn result }
 {
-    let distance = wide(by)?;
+    let distance = integer_of(by)?;
     run(
         tx,
         texts::MOVE_BACK_OF,
@@ -331,6 +331,6 @@ pub(crate) fn move_up<S: Alter>(
     ensures { Inside (state S.Store) (Makes HoldsTables (Fits (CardsMoved deck from (negsuc (by - 1))))
         (done (CardsMoved deck from (negsuc (by - 1))))) tx.old.conn tx.new.conn result }
 {
-    let distance = wide(by)?;
+    let distance = integer_of(by)?;
     run(tx, texts::MOVE_UP, &[number(deck), number(from), distance])
 }

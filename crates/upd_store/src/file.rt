@@ -128,7 +128,7 @@ pub(crate) fn refuse_exposed(rt: &HostRuntime, path: &str) -> Result<(), Fault>
     }
 }
 
-/// Makes an empty file that only its owner may read and write, where there is none. Where that fails, and where there is a file
+/// Makes an empty file that only its owner may read and write, where there isn't one. Where that fails, and where there is a file
 /// of another user, the fault is Store at 0.
 fn make_private(rt: &HostRuntime, path: &str) -> Result<(), Fault>
     ensures lost { IfErr result IsLost }

@@ -119,7 +119,7 @@ pub(crate) fn real_path(rt: &HostRuntime, path: &str) -> io::Result<String> {
     Ok(real)
 }
 
-/// The bytes of a file, 0 where there is none.
+/// The bytes of a file, 0 where there isn't one.
 fn length_of(rt: &HostRuntime, path: &str) -> io::Result<u64> {
     Ok(unless_missing(fs::metadata(rt, path))?.map_or(0, |found| found.len()))
 }

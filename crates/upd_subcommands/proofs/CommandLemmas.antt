@@ -38,7 +38,7 @@ answered (Err fault) status defined output output' faults faults' (inr failed) (
     inr (told.0 ∙ failed.0, (fault, inl failed.0, failed.1, front_all faults faults' (fault_line fault) told.1))
 answered (Err fault) status defined output output' faults faults' (inr failed) (inr unsaid) = inr (unsaid.0, (fault, inl failed.0, failed.1, unsaid.1))
 
--- what is not there is none
+-- what is not there isn't one
 pub none_of : {X : Type 0} (o : Option X) → ¬ (o ≢ None) → o ≡ None
 none_of None some = refl
 none_of {X} (Some x) some = absurd (some (λ is. subst (λ (o : Option X). IsSomeAnd o (λ _. Unit {0})) is tt))

@@ -1,4 +1,4 @@
--- How `correct` reports its answer: the run on the output, or on the fault stream why there is none.
+-- How `correct` reports its answer: the run on the output, or on the fault stream why there isn't one.
 use Rattle.std.specs.Prelude.{◌⊎◌, ℕ, List, [], Option, Result, Ok, Err}
 use Rattle.std.specs.Io.KnownBytes.{Appends}
 use Rattle.upd_text.specs.declared.fault.Fault.{Fault}

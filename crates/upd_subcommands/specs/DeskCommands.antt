@@ -115,7 +115,7 @@ module _ {S : Type 0} (meaning : Ghosts S) where
       (answer : Result ReplyView Fault) × (warnings : Result (List Warning) Fault) × IsTriedAs mode since run answer warnings old new
       × ((text : Result (List ℕ) Fault) × AreTexts warnings text × ReportsTried answer text end)
 
-  -- An edited text, which may have been taken when an ident was the youngest, is answered by a run, or by why there is none. Nothing is changed.
+  -- An edited text, which may have been taken when an ident was the youngest, is answered by a run, or by why there isn't one. Nothing is changed.
   pub record IsCorrection (since : Option (List ℕ)) (set text : List ℕ) (answer : Result (List ℕ) EditError) (old new : S) : Type 0 where
     pub answers : EachHeld meaning old new (λ journal. IsAnswerIn (edited_in text since (library_after journal)) set text answer)
     pub long : MAX_TEXT_BYTES < length text → IfErr answer (λ error. error ≡ Failed (fault_at RunLong 0))

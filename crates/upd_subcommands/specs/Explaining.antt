@@ -10,7 +10,7 @@ use Rattle.upd_subcommands.specs.Reporting.{Writes}
 abbrev pub not_explained : List ℕ
 not_explained = codes "upd: BadName (5) at 0\n" ++ fault_list
 
--- an explanation is on the output, or it was not to be written; where there is none, that is said
+-- an explanation is on the output, or it was not to be written; where there isn't one, that is said
 abbrev pub Explains : Option (List ℕ) → Ending → Type 0
 Explains (Some text) end =
     (ended : Result ℕ Fault) × Writes 0 text ended end.output end.output' × IsEndOf ended end.status end.faults end.faults'

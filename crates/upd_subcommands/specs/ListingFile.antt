@@ -34,7 +34,7 @@ IsListedFault (NotListing line) status faults faults' = IsReported 1 (not_listin
 IsListedFault (OtherDeck line) status faults faults' = IsReported 1 (other_deck_line line) status faults faults'
 IsListedFault (Refused refusals) status faults faults' = IsRefusedBy refusals.items status faults faults'
 
--- the run from a listing is on the output; or the fault stream says why there is none, and nothing is on the output
+-- the run from a listing is on the output; or the fault stream says why there isn't one, and nothing is on the output
 abbrev pub ReportsListing : List ℕ → List ℕ → List ℕ → Result (List ℕ) ListedError → Ending → Type 0
 ReportsListing listing set text (Ok run) end = IsListedRun listing set text run × ReportsCorrection (Ok run) end
 ReportsListing listing set text (Err error) end =

@@ -16,7 +16,7 @@ use upd_row_store::RowStore;
 use upd_text::{Fault, Name};
 
 /// The run that leads decks to an edited text, which may have been taken when an ident was the youngest, goes to the
-/// output. Where there is none, a line for each refusal, or that of a fault, goes to the fault stream. Returns the exit
+/// output. Where there isn't one, a line for each refusal, or that of a fault, goes to the fault stream. Returns the exit
 /// status: 0 for a run, 1 for refusals, and that of the fault.
 pub(crate) fn correct_text<S: RowStore, W: Write, E: Write>(
     alloc: Global,
@@ -36,7 +36,7 @@ pub(crate) fn correct_text<S: RowStore, W: Write, E: Write>(
     report_correction(alloc, answer, output, faults)
 }
 
-/// Writes a run, or why there is none. Returns the exit status.
+/// Writes a run, or why there isn't one. Returns the exit status.
 pub(crate) fn report_correction<W: Write, E: Write>(
     alloc: Global,
     answer: Result<Vec<u8>, EditError>,

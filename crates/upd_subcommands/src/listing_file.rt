@@ -63,7 +63,7 @@ fn fill<R: Read>(file: &mut R, size: usize, bytes: &mut Vec<u8>) -> Result<bool,
     }
 }
 
-/// The run that leads the deck of a listing to an edited text goes to the output. Where there is none, the line or the
+/// The run that leads the deck of a listing to an edited text goes to the output. Where there isn't one, the line or the
 /// lines that say why go to the fault stream. Returns the exit status, as `correct_text` does.
 pub fn correct_listing<W: Write, E: Write>(
     alloc: Global,

@@ -12,7 +12,7 @@ use std::{fs, io};
 const MAX_PATH: usize = 100;
 
 /// Makes a socket of mode 0600 at a path, and listens there. A socket that nobody serves is replaced. The error says why
-/// there is none.
+/// there isn't one.
 pub(crate) fn bind_local(rt: &HostRuntime, path: &str) -> Result<UnixListener, &'static str> {
     if !fits_path(path) {
         return Err(": its path has more than 100 bytes");

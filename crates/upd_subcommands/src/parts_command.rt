@@ -23,7 +23,7 @@ use upd_text::limits::MAX_RUN_BYTES;
 use upd_text::{Fault, FaultKind};
 
 /// The spool of runs that lead decks to an edited text one after the other goes to the output, for a site and from a
-/// number on. Where there is none, nothing does, and the fault stream says why, as for `correct`; BadSite, BadNumber and
+/// number on. Where there isn't one, nothing does, and the fault stream says why, as for `correct`; BadSite, BadNumber and
 /// BadMode, at 0, are also faults, and NumberUsed is a problem: the site has used or settled one of the numbers. Returns
 /// the exit status.
 pub(crate) fn correct_text_in_parts<S: RowStore, W: Write, E: Write>(

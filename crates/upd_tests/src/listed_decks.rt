@@ -15,7 +15,7 @@ use upd_testkit::random_runs::Dice;
 const LISTING: &str =
     "DECK A\nA A.1 *DECK A\nA A.2 ONE\nI A.3 TWO\nA X.1  indented\nA Y.1 \nA A.4 THREE\n";
 
-/// Listings and edited texts, and the run of each, or why there is none: the first line that isn't one of a deck's
+/// Listings and edited texts, and the run of each, or why there isn't one: the first line that isn't one of a deck's
 /// listing, the first that begins another deck, or a refusal of the text.
 const EDITS: &[(&str, &str, &str)] = &[
     (
@@ -71,7 +71,7 @@ const EDITS: &[(&str, &str, &str)] = &[
     ),
 ];
 
-/// The run of set Z for an edited text of a listed deck, or why there is none.
+/// The run of set Z for an edited text of a listed deck, or why there isn't one.
 fn listed_run(alloc: Global, listing: &[u8], text: &str) -> Result<String, Fail> {
     match correct_listed(alloc, listing, b"Z", text.as_bytes()) {
         Ok(run) => Ok(String::from_utf8(run)?),

@@ -49,7 +49,7 @@ fn is_deck(library: &Library, text: &str) -> Result<(), Fail> {
     same_text("deck A", std::str::from_utf8(&found)?, text)
 }
 
-/// The run of set Z for an edit of a library as of an ident, or why there is none.
+/// The run of set Z for an edit of a library as of an ident, or why there isn't one.
 fn found_since(library: &Library, since: &str, edited: &str) -> Result<String, Fail> {
     let alloc = library.allocator();
     let taken = as_of(alloc, library, &name(since)?)?;

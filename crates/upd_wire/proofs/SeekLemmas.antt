@@ -275,7 +275,7 @@ module _ {K : Type 0} where
       (spelled_finds s segments later nones bytes.1 0 (step b rows) (λ u key has. (plain (b ∷ u) key (step_has b u key rows has)).2))
       (inr (other, param)))
 
-  -- a router finds a row that the path goes by, or there is none
+  -- a router finds a row that the path goes by, or there isn't one
   pub seek_finds : (path : List ℕ) → AreBytes path → (rows : RowsOf K) → AllPlain rows → Finds (λ t. goes t path) rows (seek 0 rows path)
   seek_finds path bytes rows plain =
       let (s, segments, split, whole, none, nones) = segments_spell_path path in

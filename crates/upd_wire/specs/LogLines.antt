@@ -19,7 +19,7 @@ use Rattle.upd_wire.specs.declared.call.DeskCall.{DeskCall}
 use Rattle.upd_wire.specs.declared.call.Refusal.{Refusal}
 use Rattle.upd_wire.specs.declared.log_lines.TheConstants.{MAX_FIELD}
 
--- A request and its answer: the first bytes that were read, what they ask, and the answer or the fault that says why there is none.
+-- A request and its answer: the first bytes that were read, what they ask, and the answer or the fault that says why there isn't one.
 pub record ExchangeView : Type 0 where
   pub head : List ℕ
   pub asked : Option Asked
@@ -103,7 +103,7 @@ answered is_run r =
     then (if is_run then codes "accepted" else codes "ok")
     else (if is_run && (r.status == 422) then piece 34 11 r.body else piece 34 7 r.body)
 
--- what came of a request: the word of its answer, or the name of the fault that says why there is none
+-- what came of a request: the word of its answer, or the name of the fault that says why there isn't one
 abbrev pub outcome : ExchangeView → List ℕ
 outcome e = of e.answer
   where

@@ -27,7 +27,7 @@ pub(crate) struct Exchange {
     /// The bytes that were read with its head.
     pub(crate) head: Vec<u8>,
     pub(crate) request: Result<DeskCall, Refusal>,
-    /// The answer, or the fault that says why there is none.
+    /// The answer, or the fault that says why there isn't one.
     pub(crate) answer: Result<Answer, Fault>,
 }
 

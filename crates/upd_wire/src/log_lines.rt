@@ -125,7 +125,7 @@ fn piece(text: &[u8], separator: u8, count: u32) -> &[u8]
     }
 }
 
-/// The site of a run or of a settlement, or an empty text where there is none or it is not valid.
+/// The site of a run or of a settlement, or an empty text where there isn't one or it is not valid.
 fn site_of(request: &Result<DeskCall, Refusal>) -> &[u8]
     ensures { result.now ≡ site_of (asked_of request.now) }
 {
@@ -167,7 +167,7 @@ fn status_of(answer: &Result<Answer, Fault>) -> &[u8]
     }
 }
 
-/// The word of an answer, or the name of the fault that says why there is none.
+/// The word of an answer, or the name of the fault that says why there isn't one.
 fn outcome(exchange: &Exchange) -> &[u8]
     ensures { result.now ≡ outcome (exchange_view exchange.now) }
 {

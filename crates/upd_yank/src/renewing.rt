@@ -73,8 +73,8 @@ fn push_aged(
     ensures { OnOk result (decks.new.items ≡ decks.old.items ++ deck_of_age statuses.now part.now before.now serial) }
 {
     if let Some(deck) = deck_aged(part.decks(), serial) {
-        let anew = anew(alloc, statuses, part.idents(), deck)?;
-        decks.push(anew)?;
+        let renewed = renewed_deck(alloc, statuses, part.idents(), deck)?;
+        decks.push(renewed)?;
     } else if let Some(deck) = active_deck_aged(&before.decks, serial) {
         let copy = deck.copy()?;
         decks.push(copy)?;
@@ -94,17 +94,17 @@ fn active_deck_aged(decks: &[ActiveDeck], serial: Serial) -> Option<&ActiveDeck>
 }
 
 /// The active cards of a deck, by the cached statuses.
-fn anew(
+fn renewed_deck(
     alloc: Global,
     statuses: &Statuses,
     idents: &[Ident],
     deck: &Deck,
 ) -> Result<ActiveDeck, AllocError>
-    ensures { IfOk result (λ anew. anew ≡ deck_anew statuses.now idents.now deck.now) }
+    ensures { IfOk result (λ renewed. renewed ≡ deck_anew statuses.now idents.now deck.now) }
 {
-    let mut anew = ActiveDeck::new(alloc, deck.ident);
-    push_active(&mut anew, statuses, idents, &deck.cards)?;
-    Ok(anew)
+    let mut renewed = ActiveDeck::new(alloc, deck.ident);
+    push_active(&mut renewed, statuses, idents, &deck.cards)?;
+    Ok(renewed)
 }
 
 fn push_active(

@@ -33,20 +33,20 @@ returns-in-Init-clause-done g c =
 pub returns-in-Library-clause-done : goal.returns-in-Library-clause-done
 returns-in-Library-clause-done g c =
     done_as c.args.request.now _ _ c.in-Library.is
-    (c.on_library-ended.result.0, c.on_library-ended.new.faults, c.on_library-ended.ensures.leaves, c.finish_with.ensures.reported)
+    (c.run_on_file-ended.result.0, c.run_on_file-ended.new.faults, c.run_on_file-ended.ensures.leaves, c.finish_with.ensures.reported)
 
 pub returns-in-Library-clause-front : goal.returns-in-Library-clause-front
 returns-in-Library-clause-front g c = λ other.
     let IsTaken : Request → Type 0 =
-    λ request. TakesFront (most_read_for request) (g.R.Read.remaining c.args.input.now) (g.R.Read.remaining c.on_library-ended.new.input) in
-    subst IsTaken (sym c.in-Library.is) (c.on_library-ended.ensures.front (λ is. other (subst (IsOf IsSpool) (sym c.in-Library.is) is)))
+    λ request. TakesFront (most_read_for request) (g.R.Read.remaining c.args.input.now) (g.R.Read.remaining c.run_on_file-ended.new.input) in
+    subst IsTaken (sym c.in-Library.is) (c.run_on_file-ended.ensures.front (λ is. other (subst (IsOf IsSpool) (sym c.in-Library.is) is)))
 
 pub returns-in-Library-clause-waits : goal.returns-in-Library-clause-waits
-returns-in-Library-clause-waits g c = λ no. c.on_library-ended.ensures.waits (λ is. no (subst ReadsFor (sym c.in-Library.is) is))
+returns-in-Library-clause-waits g c = λ no. c.run_on_file-ended.ensures.waits (λ is. no (subst ReadsFor (sym c.in-Library.is) is))
 
 pub returns-in-Library-clause-silent : goal.returns-in-Library-clause-silent
 returns-in-Library-clause-silent g c = λ which.
-    silent_end _ _ c.on_library-ended.result.0 _ _ _ c.finish_with.ensures.reported c.on_library-ended.ensures.refused c.on_library-ended.ensures.failed
+    silent_end _ _ c.run_on_file-ended.result.0 _ _ _ c.finish_with.ensures.reported c.run_on_file-ended.ensures.refused c.run_on_file-ended.ensures.failed
     (elim which [
       | inl two ↦ inl two
       | inr one ↦ inr (one.0, λ is. one.1 (subst (IsOf WritesRefusals) (sym c.in-Library.is) is))
@@ -55,7 +55,7 @@ returns-in-Library-clause-silent g c = λ which.
 pub returns-in-Library-clause-clean : goal.returns-in-Library-clause-clean
 returns-in-Library-clause-clean g c = λ other zero.
     c.finish_with.ensures.clean zero
-    ∙ clean_end _ _ c.on_library-ended.result.0 _ _ _ c.finish_with.ensures.reported c.on_library-ended.ensures.clean c.on_library-ended.ensures.quiet
+    ∙ clean_end _ _ c.run_on_file-ended.result.0 _ _ _ c.finish_with.ensures.reported c.run_on_file-ended.ensures.clean c.run_on_file-ended.ensures.quiet
     (λ is. other (subst (IsOf UsesFaults) (sym c.in-Library.is) is)) zero
 
 pub returns-in-Backup-clause-done : goal.returns-in-Backup-clause-done

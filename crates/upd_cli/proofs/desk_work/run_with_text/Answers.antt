@@ -2,7 +2,7 @@ use Rattle.std.proofs.Common.{ap, inl, inr, refl}
 use Rattle.upd_text.specs.declared.fault.Fault.{Fault}
 use Rattle.upd_row_store.specs.Keeping.IsLost.{OfMemory}
 use Rattle.upd_cli.proofs.LeavingLemmas.{unread_fails, untouched_frames}
-use Rattle.upd_cli.proofs.desk_work.with_text.Goals as goal
+use Rattle.upd_cli.proofs.desk_work.run_with_text.Goals as goal
 
 pub returns-in-Err : goal.returns-in-Err
 returns-in-Err g c =

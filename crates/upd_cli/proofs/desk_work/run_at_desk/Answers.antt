@@ -2,7 +2,7 @@ use Rattle.std.proofs.Common.{inl, inr, refl, sym, subst}
 use Rattle.upd_memory.specs.Mirrored.{AgreesIfAny}
 use Rattle.upd_store.specs.OneOpen.{IsBelow, IsServed}
 use Rattle.upd_cli.proofs.LeavingLemmas.{either, untouched_frames, unopened_fails}
-use Rattle.upd_cli.proofs.desk_work.at_desk.Goals as goal
+use Rattle.upd_cli.proofs.desk_work.run_at_desk.Goals as goal
 
 pub returns-in-Ok : goal.returns-in-Ok
 returns-in-Ok g c =

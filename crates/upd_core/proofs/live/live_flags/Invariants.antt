@@ -1,5 +1,5 @@
 use Rattle.upd_core.proofs.Common.{◌≡◌, drop, length, targets_of, live_cards, liveness}
-use Rattle.upd_core.proofs.live.swept.Given as goal
+use Rattle.upd_core.proofs.live.live_flags.Given as goal
 
 abbrev pub invariant-loop-i : goal.invariant-loop-i
 invariant-loop-i l = record {
