@@ -29,7 +29,7 @@ of_mark m = record { site = m.site; mark = m.mark; greatest = m.mark; stored = 0
 
 -- two of one site as one
 abbrev pub joined : SiteView → SiteView → SiteView
-joined a b = record { site = a.site; mark = max a.mark b.mark; greatest = max a.greatest b.greatest; stored = both a.stored b.stored }
+joined a b = record { site = a.site; mark = max a.mark b.mark; greatest = max a.greatest b.greatest; stored = add_sizes a.stored b.stored }
 
 -- the number after the greatest one; the last number of all has none
 abbrev pub next_number : ℕ → List ℕ
