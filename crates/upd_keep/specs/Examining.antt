@@ -24,7 +24,7 @@ use Rattle.upd_sql.specs.Schema.{library_schema, meta}
 use Rattle.upd_sqlite.specs.Steps.{Steps}
 use Rattle.upd_sqlite.specs.Stored.{HasRows}
 use Rattle.upd_store.specs.Version.{HasVersion}
-use Rattle.upd_views.specs.SiteLines.{both}
+use Rattle.upd_views.specs.SiteLines.{add_sizes}
 use Rattle.upd_keep.specs.Replaying.{AreStoredTables}
 use Rattle.upd_keep.specs.Situations.{situation_at_version, situation_of}
 use Rattle.upd_keep.specs.declared.stored_tables.StoredTables.{StoredTables}
@@ -50,7 +50,7 @@ is_held_deck i = i.held && is_deck_kind i.kind
 
 -- how many bytes the replies of stored runs have, or 2^64 - 1 where they have more
 abbrev pub reply_bytes : List RunView → ℕ
-reply_bytes runs = fold (λ count r. both count (length r.reply)) 0 runs
+reply_bytes runs = fold (λ count r. add_sizes count (length r.reply)) 0 runs
 
 -- the line of a sound library with these numbers of decks, cards and stored runs, and of bytes of the replies and of the file
 abbrev pub sound_line : ℕ → ℕ → ℕ → ℕ → ℕ → List ℕ
